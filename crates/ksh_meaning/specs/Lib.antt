@@ -1,0 +1,11 @@
+pub mod Prog
+pub mod Units
+pub mod Texts
+pub mod Answers
+pub mod Tasks
+pub mod Print
+pub mod Builtins
+pub mod Expand
+pub mod Assign
+pub mod Subshell
+pub mod Mean

@@ -1,0 +1,10 @@
+//! The state of a shell, what a forked shell begins with, and what a builtin asks of its shell.
+#![tactic(auto)]
+
+mod start;
+mod state;
+mod task;
+
+pub use start::Start;
+pub use state::{Flow, ShellState, Stop};
+pub use task::{Builtin, Task, Told};
