@@ -1,6 +1,6 @@
 -- Laws of programs.
 use Rattle.std.specs.Prelude.{◌≡◌, ℕ, zero, suc, ◌≤◌, List, [], ◌∷◌, ◌++◌, refl, Result, Ok, Err, Bool, Option, Some, None}
-use Rattle.std.proofs.Common.{sym, ◌∙◌, ap, subst, append_assoc, append-nil, arith}
+use Rattle.std.proofs.Common.{◌+◌, sym, ◌∙◌, ap, subst, append_assoc, append-nil, arith}
 use Rattle.kernel_ask.specs.declared.ask.Ask.{Ask}
 use Rattle.kernel_ask.specs.declared.ask.Answer.{Answer}
 use Rattle.kernel_ask.specs.declared.ask.Entry.{Entry}
@@ -12,7 +12,8 @@ use Rattle.shell_state.specs.declared.state.Stop.{Stop}
 use Rattle.shell_state.specs.declared.state.Stop.TheVariants as stop
 use Rattle.shell_state.specs.declared.state.ShellState.{ShellState}
 use Rattle.ksh_script.specs.declared.tree.Item.{Item}
-use Rattle.ksh_meaning.specs.Mean.{asked, put, End, unit, work, inside}
+use Rattle.ksh_meaning.specs.Units.{asked, put, End, units}
+use Rattle.ksh_meaning.specs.Mean.{work, inside}
 
 -- ---- transcripts
 
@@ -86,23 +87,23 @@ pub means_no_memory : {A : Type 0} (b : ℕ) (x : Done_so_far) (p : ℕ → Prog
 means_no_memory b x p = record { at = λ n h. (p n, added_none x (p n)) }
 
 module _ (x : Done_so_far) (w : Item) (s next : ShellState) where
-  work_at : (y : Done_so_far) (n : ℕ) (r : Result End Stop) → unit s ≡ Done next → suc next.budget ≤ n → ((m : ℕ) → next.budget ≤ m → Finished x y (inside (work m) w next) r) → Finished x y (work n w s) r
+  work_at : (y : Done_so_far) (n : ℕ) (r : Result End Stop) → units 1 s ≡ Done next → suc next.budget ≤ n → ((m : ℕ) → next.budget ≤ m → Finished x y (inside (work m) w next) r) → Finished x y (work n w s) r
   unfolding work
   work_at y zero r e h m = absurd (omega arith)
   work_at y (suc n) r e h m = rw e (m n (omega arith))
 
   -- a unit and then what is inside is the whole, at every depth that the budget allows
-  pub means_work : {y : Done_so_far} {r : Result End Stop} → unit s ≡ Done next → s.budget ≡ suc next.budget → Means next.budget x y (λ n. inside (work n) w next) r → Means s.budget x y (λ n. work n w s) r
+  pub means_work : {y : Done_so_far} {r : Result End Stop} → units 1 s ≡ Done next → s.budget ≡ next.budget + 1 → Means next.budget x y (λ n. inside (work n) w next) r → Means s.budget x y (λ n. work n w s) r
   means_work {y} {r} e f m = record { at = λ n h. work_at y n r e (omega arith) m.at }
 
--- a unit that was spent before a part
-pub means_unit : {B : Type 0} (b c : ℕ) (x y : Done_so_far) (s next : ShellState) (k : ℕ → ShellState → Prog B) (r : Result B Stop) → c ≤ b → unit s ≡ Done next → Means c x y (λ n. k n next) r → Means b x y (λ n. and_then (unit s) (k n)) r
-means_unit b c x y s next k r le e m = rw e (record { at = λ n h. m.at n (omega arith) })
+-- units that were spent before a part
+pub means_units : {B : Type 0} (u b c : ℕ) (x y : Done_so_far) (s next : ShellState) (k : ℕ → ShellState → Prog B) (r : Result B Stop) → c ≤ b → units u s ≡ Done next → Means c x y (λ n. k n next) r → Means b x y (λ n. and_then (units u s) (k n)) r
+means_units u b c x y s next k r le e m = rw e (record { at = λ n h. m.at n (omega arith) })
 
-pub means_no_unit : {B : Type 0} (b : ℕ) (x : Done_so_far) (s : ShellState) (k : ℕ → ShellState → Prog B) → unit s ≡ Spent → Means {A = B} b x x (λ n. and_then (unit s) (k n)) (Err stop.Spent)
-means_no_unit b x s k e = rw e (record { at = λ n h. added_none x Spent })
+pub means_no_units : {B : Type 0} (u b : ℕ) (x : Done_so_far) (s : ShellState) (k : ℕ → ShellState → Prog B) → units u s ≡ Spent → Means {A = B} b x x (λ n. and_then (units u s) (k n)) (Err stop.Spent)
+means_no_units u b x s k e = rw e (record { at = λ n h. added_none x Spent })
 
-module _ (b : ℕ) (x : Done_so_far) (s : ShellState) (e : unit s ≡ Spent) where
+module _ (b : ℕ) (x : Done_so_far) (s : ShellState) (e : units 1 s ≡ Spent) where
   none_at : (w : Item) (n : ℕ) → Added x x (work n w s) Spent
   unfolding work
   none_at w zero = added_none x Spent
@@ -120,7 +121,7 @@ pub means_put : (b : ℕ) (x y : Done_so_far) (c : Ask Start) (s : ShellState) (
 unfolding put
 means_put b x y c s a h = record { at = λ n below. rw h (added_one x c (λ a. Done (s, a)) a) }
 
-module _ (b : ℕ) (x y : Done_so_far) (c : Ask Start) (s next : ShellState) (e : unit s ≡ Done next) where
+module _ (b : ℕ) (x y : Done_so_far) (c : Ask Start) (s next : ShellState) (e : units 1 s ≡ Done next) where
   pub means_asked : (a : Answer) → y ≡ more x c a → Means b x y (λ n. asked c s) (Ok (next, a))
   unfolding asked put
   means_asked a h = record { at = λ n below. rw (e, h) (added_one x c (λ a. Done (next, a)) a) }

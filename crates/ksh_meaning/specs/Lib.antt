@@ -9,3 +9,9 @@ pub mod Expand
 pub mod Assign
 pub mod Subshell
 pub mod Mean
+pub mod Finished
+pub mod Laws
+pub mod Remains
+pub mod Theorem
+pub mod Serving
+pub mod Service

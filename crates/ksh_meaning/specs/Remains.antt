@@ -11,7 +11,9 @@ use Rattle.std.proofs.Math.ListN.{drop_of_length-le}
 use Rattle.shell_state.specs.declared.state.Flow.{Flow}
 use Rattle.shell_state.specs.declared.state.Flow.TheVariants.{Next, Exit}
 use Rattle.ksh_script.specs.declared.tree.Item.{Item}
-use Rattle.ksh_meaning.specs.Mean.{End, Runs, work, list_of, goes_on, ends}
+use Rattle.ksh_meaning.specs.Units.{End, ends}
+use Rattle.ksh_meaning.specs.Subshell.{goes_on}
+use Rattle.ksh_meaning.specs.Mean.{work, list_of}
 
 -- whatever q does from y on, p does from x on
 pub record Remains {A : Type 0} (b c : ℕ) (x y : Done_so_far) (p q : ℕ → Prog A) : Type 0 where

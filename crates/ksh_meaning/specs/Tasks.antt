@@ -18,14 +18,7 @@ doing does (Asks q go) = and_then (does q) (λ r. doing does (go r))
 
 -- The closure is seen as a relation: in f, asked q, it may answer r and leave f'. Where it answers an error, the
 -- part of the shell that asked gives it on.
-module _ {C Q R E : Type 0} (step : C → Q → Result R E → C → Type 0) (lost : E) where
-  -- the tasks were done one after another, and f' is left; where memory ran out, a front of them
-  pub data Served {A : Type 0} : C → Tasks Q R A → Result A E → C → Type 0 where
-    ended : {f : C} {a : A} → Served f (Ends a) (Ok a) f
-    no_memory : {f : C} {tasks : Tasks Q R A} → Served f tasks (Err lost) f
-    stopped : {f f' : C} {q : Q} {go : R → Tasks Q R A} {e : E} → step f q (Err e) f' → Served f (Asks q go) (Err e) f'
-    more : {f m f' : C} {q : Q} {go : R → Tasks Q R A} {r : R} {x : Result A E} → step f q (Ok r) m → Served m (go r) x f' → Served f (Asks q go) x f'
-
+module _ {C Q R E : Type 0} (step : C → Q → Result R E → C → Type 0) where
   -- what calls of the closure lead to
   pub data Reached (f : C) : C → Type 0 where
     start : Reached f f
@@ -34,6 +27,15 @@ module _ {C Q R E : Type 0} (step : C → Q → Result R E → C → Type 0) (lo
   pub reached_on : {f m x : C} {q : Q} {r : Result R E} → step f q r m → Reached m x → Reached f x
   reached_on p start = later start p
   reached_on p (later h q) = later (reached_on p h) q
+
+-- `lost` is the error of lost memory, which may come at any time
+module _ {C Q R E : Type 0} (step : C → Q → Result R E → C → Type 0) (lost : E) where
+  -- the tasks were done one after another, and f' is left; where memory ran out, a front of them
+  pub data Served {A : Type 0} : C → Tasks Q R A → Result A E → C → Type 0 where
+    ended : {f : C} {a : A} → Served f (Ends a) (Ok a) f
+    no_memory : {f : C} {tasks : Tasks Q R A} → Served f tasks (Err lost) f
+    stopped : {f f' : C} {q : Q} {go : R → Tasks Q R A} {e : E} → step f q (Err e) f' → Served f (Asks q go) (Err e) f'
+    more : {f m f' : C} {q : Q} {go : R → Tasks Q R A} {r : R} {x : Result A E} → step f q (Ok r) m → Served m (go r) x f' → Served f (Asks q go) x f'
 
   -- tasks and what follows them
   pub served_then : {A B : Type 0} {f m f' : C} {tasks : Tasks Q R A} {a : A} {x : Result B E} (k : A → Tasks Q R B) → Served f tasks (Ok a) m → Served m (k a) x f' → Served f (followed_by tasks k) x f'

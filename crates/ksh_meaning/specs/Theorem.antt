@@ -7,7 +7,8 @@ use Rattle.kernel_ask.specs.declared.ask.Answer.{Answer}
 use Rattle.kernel_ask.specs.declared.ask.Entry.{Entry}
 use Rattle.ksh_meaning.specs.Prog.{Prog, Done, Spent, Asks, Leads, Fed, feed}
 use Rattle.ksh_meaning.specs.Finished.{Done_so_far, plus, Added, Finished, Means}
-use Rattle.ksh_meaning.specs.Mean.{End, Mean, list_of, work}
+use Rattle.ksh_meaning.specs.Units.{End}
+use Rattle.ksh_meaning.specs.Mean.{Mean, list_of, work}
 use Rattle.shell_state.specs.declared.start.Start.{Start}
 use Rattle.shell_state.specs.declared.state.ShellState.{ShellState}
 use Rattle.shell_state.specs.declared.state.Stop.{Stop}
