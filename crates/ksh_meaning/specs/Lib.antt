@@ -3,6 +3,7 @@ pub mod Units
 pub mod Texts
 pub mod Answers
 pub mod Tasks
+pub mod Output
 pub mod Print
 pub mod Builtins
 pub mod Expand
@@ -15,3 +16,4 @@ pub mod Remains
 pub mod Theorem
 pub mod Serving
 pub mod Service
+pub mod Asking

@@ -86,3 +86,11 @@ module _ {C S : Type 0} (g : Ctx C S) where
   pub answers_each : {l b : ℕ} {f m : C × S} {s mid : ShellState} {t : Task} {r : Result Told Stop} → Serves l b f → Performs f s t r m mid → IfOk r (λ x. Answers t x)
   answers_each {r = Ok x} h p = h.answers _ _ _ _ _ _ start p
   answers_each {r = Err e} h p = tt
+
+  pub serves_within : {k l b c : ℕ} {f : C × S} → c ≤ b → l ≡ k → Serves k b f → Serves l c f
+  serves_within le same h = record {
+    callable = λ x reached w q t at below level. h.callable x reached w q t at (omega arith) (level ∙ same);
+    levels = h.levels;
+    keeps = h.keeps;
+    answers = h.answers;
+  }

@@ -17,7 +17,7 @@ use Rattle.ksh_meaning.specs.Prog.{Prog, Done, and_then}
 use Rattle.ksh_meaning.specs.Units.{End, ends, with_status, units, put, asked}
 use Rattle.ksh_meaning.specs.Answers.{write_refused}
 use Rattle.ksh_meaning.specs.Texts.{fault_line, refused_words}
-use Rattle.ksh_meaning.specs.Print.{write, text_left}
+use Rattle.ksh_meaning.specs.Output.{write, text_left}
 
 -- after one part the next one follows, unless the flow leaves
 abbrev pub goes_on : (ShellState → Prog End) → End → Prog End

@@ -1,5 +1,6 @@
 -- What a part of a shell does through a closure that it is handed: it asks, is told, and goes on by that.
 use Rattle.std.specs.Prelude.{◌≡◌, Result, Ok, Err}
+use Rattle.std.proofs.Common.{subst}
 use Rattle.ksh_meaning.specs.Prog.{Prog, Done, and_then}
 
 pub data Tasks (Q R A : Type 0) : Type 0 where
@@ -37,6 +38,9 @@ module _ {C Q R E : Type 0} (step : C → Q → Result R E → C → Type 0) (lo
     stopped : {f f' : C} {q : Q} {go : R → Tasks Q R A} {e : E} → step f q (Err e) f' → Served f (Asks q go) (Err e) f'
     more : {f m f' : C} {q : Q} {go : R → Tasks Q R A} {r : R} {x : Result A E} → step f q (Ok r) m → Served m (go r) x f' → Served f (Asks q go) x f'
 
+  pub served_end : {A : Type 0} {f : C} {a b : A} → a ≡ b → Served f (Ends a) (Ok b) f
+  served_end {f} {a} e = subst (λ z. Served f (Ends a) (Ok z) f) e ended
+
   -- tasks and what follows them
   pub served_then : {A B : Type 0} {f m f' : C} {tasks : Tasks Q R A} {a : A} {x : Result B E} (k : A → Tasks Q R B) → Served f tasks (Ok a) m → Served m (k a) x f' → Served f (followed_by tasks k) x f'
   served_then k ended h = h
@@ -51,3 +55,14 @@ module _ {C Q R E : Type 0} (step : C → Q → Result R E → C → Type 0) (lo
   -- whatever serves what is left from m on serves the whole from f on
   pub record Left {A : Type 0} (f m : C) (whole rest : Tasks Q R A) : Type 0 where
     pub goes : (x : Result A E) (f' : C) → Served m rest x f' → Served f whole x f'
+
+  pub left_all : {A : Type 0} (f : C) (whole : Tasks Q R A) → Left f f whole whole
+  left_all f whole = record { goes = λ x f' h. h }
+
+  -- the next part was done
+  pub left_on : {A B : Type 0} {f m m' : C} {whole : Tasks Q R B} {tasks : Tasks Q R A} {a : A} (k : A → Tasks Q R B) → Left f m whole (followed_by tasks k) → Served m tasks (Ok a) m' → Left f m' whole (k a)
+  left_on k h s = record { goes = λ x f' t. h.goes x f' (served_then k s t) }
+
+  -- the next part ended the whole
+  pub left_stop : {A B : Type 0} {f m m' : C} {whole : Tasks Q R B} {tasks : Tasks Q R A} {e : E} (k : A → Tasks Q R B) → Left f m whole (followed_by tasks k) → Served m tasks (Err e) m' → Served f whole (Err e) m'
+  left_stop {m'} {e} k h s = h.goes (Err e) m' (served_stop k s)
