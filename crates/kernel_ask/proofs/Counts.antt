@@ -1,5 +1,5 @@
 -- How many calls a transcript has, and how many entries its children may still add.
-use Rattle.std.proofs.Common.{◌≡◌, ◌∙◌, ap, refl, ℕ, ◌≤◌, ◌+◌, ◌*◌, Bool, true, false, cond, List, [], ◌∷◌, ◌++◌, length, sum_by, count_by, arith}
+use Rattle.std.proofs.Common.{◌≤◌, ◌*◌, List, [], ◌∷◌, length, sum_by, arith}
 use Rattle.std.proofs.lemmas.List.Sums.{sum_by-cons, count_by-le-length}
 use Rattle.kernel_ask.specs.declared.ask.Entry.{Entry}
 use Rattle.kernel_ask.specs.declared.ask.Phase.{Phase}

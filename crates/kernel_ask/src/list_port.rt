@@ -184,7 +184,8 @@ impl<F: Snapshot + Send> Port<F> for ListPort<F> {
     ghost use Rattle.kernel_ask.specs.Causes.{CountsRefusal, CountsForkRefusal};
     ghost use Rattle.kernel_ask.specs.Listed.{next_answer};
     ghost use Rattle.kernel_ask.specs.ListSeen.{seen_of, IsFull};
-    ghost use Rattle.kernel_ask.specs.Seen.{acted, forked, child_of, NoneMade, GivesBack, SaysTooMany};
+    ghost use Rattle.kernel_ask.specs.Seen.{acted, forked, child_of, marked, waited_for, ended, IsIn, NoneMade, GivesBack, SaysTooMany};
+    ghost use Rattle.kernel_ask.specs.declared.ask.Phase.TheVariants.{Made, Begun};
 
     ghost sees = { seen_of };
 
@@ -242,7 +243,14 @@ impl<F: Snapshot + Send> Port<F> for ListPort<F> {
         Ok((number, child))
     }
 
-    fn mark(&mut self, child: u32, begun: bool) {
+    fn mark(&mut self, child: u32, begun: bool)
+        requires live { self.old.live ≡ true }
+        requires last { child ≡ length self.old.children.items }
+        requires made { IsIn self.old.children.items child Made }
+        ensures marks { seen_of self.new ≡ marked (seen_of self.old) child begun }
+        ensures count { self.new.refusals ≡ self.old.refusals }
+        ensures lists { self.new.lists ≡ self.old.lists }
+    {
         let (phase, answer) = if begun {
             (Phase::Begun, Answer::Begun)
         } else {
@@ -251,12 +259,23 @@ impl<F: Snapshot + Send> Port<F> for ListPort<F> {
         self.note(child, phase, Ask::Begin { child }, answer);
     }
 
-    fn waited(&mut self, child: u32, status: u8) {
+    fn waited(&mut self, child: u32, status: u8)
+        requires live { self.old.live ≡ true }
+        requires begun { IsIn self.old.children.items child Begun }
+        ensures waits { seen_of self.new ≡ waited_for (seen_of self.old) child status }
+        ensures count { self.new.refusals ≡ self.old.refusals }
+        ensures lists { self.new.lists ≡ self.old.lists }
+    {
         let ask = Ask::WaitShell { child };
         self.note(child, Phase::Waited, ask, Answer::ShellEnded(status));
     }
 
-    fn end(&mut self) {
+    fn end(&mut self)
+        requires live { self.old.live ≡ true }
+        ensures ends { seen_of self.new ≡ ended (seen_of self.old) }
+        ensures count { self.new.refusals ≡ self.old.refusals }
+        ensures lists { self.new.lists ≡ self.old.lists }
+    {
         self.live = false;
     }
 }
