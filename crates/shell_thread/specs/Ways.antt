@@ -1,0 +1,21 @@
+-- What may become of a start: a thread only where threads are asked for, a refusal only where a
+-- fault was counted.
+use Rattle.std.specs.Prelude.{◌≡◌, ℕ, ◌≤◌, Bool, true}
+use Rattle.kernel_ask.specs.Causes.{RoseBy}
+use Rattle.shell_thread.specs.declared.spawner.Way.{Way}
+use Rattle.shell_thread.specs.declared.spawner.Way.TheVariants.{Here, Thread, Refused}
+
+abbrev pub FitsWay : ℕ → ℕ → Bool → Way → Type 0
+FitsWay before now threads Here = before ≤ now
+FitsWay before now threads (Thread _) = (before ≤ now) × (threads ≡ true)
+FitsWay before now threads Refused = RoseBy 1 before now
+
+abbrev pub IsHere : Way → Type 0
+IsHere Here = Unit {0}
+IsHere (Thread _) = ⊥
+IsHere Refused = ⊥
+
+abbrev pub IsRefused : Way → Type 0
+IsRefused Here = ⊥
+IsRefused (Thread _) = ⊥
+IsRefused Refused = Unit {0}
