@@ -1,4 +1,4 @@
-ghost use Rattle.std.specs.Prelude.{◌≡◌, [], ◌∷◌, ◌++◌, IfOk};
+ghost use Rattle.std.specs.Prelude.{◌≡◌, ◌<◌, ◌-◌, [], ◌∷◌, ◌++◌, length, slice_set, IfOk};
 ghost use Rattle.std.proofs.Common.{rules};
 ghost use Rattle.std.specs.Cmp.{partial_order_from_own_ties};
 ghost use Rattle.std.specs.Cmp.Rules.{comparing};
@@ -43,6 +43,15 @@ impl ShellName {
         let mut forks = Vec::from_slice(alloc, self.forks.as_slice())?;
         forks.push(number)?;
         Ok(ShellName { forks })
+    }
+
+    /// Puts another number in the place of the last. Takes no memory.
+    pub fn set_last(&mut self, number: u32)
+        requires { 0 < length self.old }
+        ensures { self.new ≡ slice_set self.old (length self.old - 1) number }
+    {
+        let at = self.forks.len() - 1;
+        self.forks[at] = number;
     }
 
     pub fn copy(&self, alloc: Global) -> Result<ShellName, Memory>

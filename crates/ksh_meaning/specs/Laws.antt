@@ -135,3 +135,7 @@ means_within le m = record { at = λ n h. m.at n (omega arith) }
 
 pub means_bound : {A : Type 0} {b c : ℕ} {x y : Done_so_far} {p : ℕ → Prog A} {r : Result A Stop} → b ≡ c → Means b x y p r → Means c x y p r
 means_bound {x} {y} {p} {r} e m = subst (λ b. Means b x y p r) e m
+
+-- memory ran out before an ask
+pub means_lost : {A : Type 0} (b : ℕ) (x y : Done_so_far) (p : ℕ → Prog A) → y ≡ x → Means b x y p (Err stop.Memory)
+means_lost b x y p e = rw e (means_no_memory b x p)
