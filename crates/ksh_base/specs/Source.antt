@@ -1,5 +1,5 @@
 -- What a read of a source takes, and what comes of reads to the end.
-use Rattle.std.specs.Prelude.{◌≡◌, ℕ, ◌+◌, ◌-◌, ◌^◌, ◌≤◌, min, List, [], take, drop, length, Option, Some, None, is_some, option_map, Result, OnErr, OnOk}
+use Rattle.std.specs.Prelude.{◌≡◌, ℕ, ◌+◌, ◌-◌, ◌^◌, ◌≤◌, min, List, [], take, drop, length, Option, Some, None, is_some, Result, OnErr, OnOk}
 
 -- a count of faults rose; one that stands at its type's end is as good as risen
 abbrev pub Rose : ℕ → ℕ → Type 0

@@ -107,7 +107,10 @@ pub struct FileSource<R: Files> {
 }
 
 impl<R: Files> FileSource<R> {
-    pub fn new(rt: R, path: Text) -> FileSource<R> {
+    /// A source over the file of that path, which isn't opened yet.
+    pub fn new(rt: R, path: Text) -> FileSource<R>
+        ensures { result.faults ≡ 0 }
+    {
         FileSource {
             rt,
             path,
@@ -270,11 +273,11 @@ mod tests {
             let mut source = BytesSource::new(bytes, Vec::new(alloc));
             let text = read_script(alloc, &mut source, limit)?;
             let end = count.min(limit);
-            assert!(rt; text.bytes() == &want.bytes()[..end]);
+            assert!(rt; want.bytes().get(..end) == Some(text.bytes()));
             if end < count {
                 let mut next = [0u8; 1];
                 assert!(rt; source.read(&mut next) == Ok(1));
-                assert!(rt; next[0] == want.bytes()[end]);
+                assert!(rt; want.bytes().get(end) == Some(&next[0]));
             }
         }
         Ok(())
