@@ -1,3 +1,5 @@
 pub mod Name
+pub mod Source
 pub mod Text
+pub mod Words
 pub mod formers
