@@ -5,7 +5,7 @@ use Rattle.std.specs.List.{list_all}
 use Rattle.ksh_base.specs.Text.{same_numbers}
 use Rattle.ksh_base.specs.declared.words.Plan.{Plan}
 use Rattle.ksh_base.specs.declared.words.ScriptFrom.{ScriptFrom}
-use Rattle.ksh_base.specs.declared.words.ScriptFrom.TheVariants.{File, Given}
+use Rattle.ksh_base.specs.declared.words.ScriptFrom.TheVariants.{File, Given, Generated}
 use Rattle.ksh_base.specs.declared.words.UsageFault.{UsageFault}
 use Rattle.ksh_base.specs.declared.words.UsageKind.{UsageKind}
 use Rattle.ksh_base.specs.declared.words.UsageKind.TheVariants.{NoScript, UnknownOption, Repeated, BadNumber, NoArgument}
@@ -91,3 +91,9 @@ abbrev pub AnswersPlan : Result Plan WordsRefused → Planned → Type 0
 AnswersPlan (Ok p) means = means ≡ Ok p
 AnswersPlan (Err (Usage f)) means = means ≡ Err f
 AnswersPlan (Err Memory) means = Unit {0}
+
+-- no words ask for the generator yet
+abbrev pub IsKnown : ScriptFrom → Type 0
+IsKnown (File path) = Unit {0}
+IsKnown (Given text) = Unit {0}
+IsKnown (Generated n) = ⊥

@@ -1,5 +1,5 @@
 ghost use Rattle.std.specs.Prelude.{◌≡◌, ℕ, ◌≤◌, ◌<◌, ◌↔◌, IfOk, drop, take, true, false, IsTrue, MatchOption, if◌then◌else◌, Option, Some, None, codes};
-ghost use Rattle.ksh_base.specs.Words.{AnswersPlan, words_plan, script_plan, after_c, after_dashes, after_budget, is_budget, is_budget_word, begins_with_dash, usage_number, written};
+ghost use Rattle.ksh_base.specs.Words.{AnswersPlan, IsKnown, words_plan, script_plan, after_c, after_dashes, after_budget, is_budget, is_budget_word, begins_with_dash, usage_number, written};
 
 use crate::memory::Memory;
 use crate::text::Text;
@@ -102,7 +102,8 @@ impl From<Memory> for WordsRefused {
 /// `[--budget=N] -- FILE [args]`, or the first fault from the left. An option that stands a second
 /// time is that fault whatever its number is.
 pub fn read_words(alloc: Global, words: &[Text]) -> Result<Plan, WordsRefused>
-    ensures { AnswersPlan result (words_plan words.now) }
+    ensures means { AnswersPlan result (words_plan words.now) }
+    ensures known { IfOk result (λ p. IsKnown p.script) }
 {
     let Some((first, rest)) = words.split_first() else {
         return read_script(alloc, DEFAULT_BUDGET, 1, words);
@@ -117,7 +118,8 @@ pub fn read_words(alloc: Global, words: &[Text]) -> Result<Plan, WordsRefused>
 }
 
 fn read_after_budget(alloc: Global, budget: u64, words: &[Text]) -> Result<Plan, WordsRefused>
-    ensures { AnswersPlan result (after_budget budget words.now) }
+    ensures means { AnswersPlan result (after_budget budget words.now) }
+    ensures known { IfOk result (λ p. IsKnown p.script) }
 {
     if let Some((first, _)) = words.split_first() {
         if budget_option(first.bytes()).is_some() {
@@ -129,7 +131,8 @@ fn read_after_budget(alloc: Global, budget: u64, words: &[Text]) -> Result<Plan,
 
 /// Reads the words from the script's on, the first of which is the word `at`.
 fn read_script(alloc: Global, budget: u64, at: u32, words: &[Text]) -> Result<Plan, WordsRefused>
-    ensures { AnswersPlan result (script_plan budget at words.now) }
+    ensures means { AnswersPlan result (script_plan budget at words.now) }
+    ensures known { IfOk result (λ p. IsKnown p.script) }
 {
     let Some((first, rest)) = words.split_first() else {
         return Err(usage(UsageKind::NoScript, at));
@@ -147,7 +150,8 @@ fn read_script(alloc: Global, budget: u64, at: u32, words: &[Text]) -> Result<Pl
 }
 
 fn read_given(alloc: Global, budget: u64, at: u32, words: &[Text]) -> Result<Plan, WordsRefused>
-    ensures { AnswersPlan result (after_c budget at words.now) }
+    ensures means { AnswersPlan result (after_c budget at words.now) }
+    ensures known { IfOk result (λ p. IsKnown p.script) }
 {
     let Some((text, rest)) = words.split_first() else {
         return Err(usage(UsageKind::NoArgument, at));
@@ -163,7 +167,8 @@ fn read_given(alloc: Global, budget: u64, at: u32, words: &[Text]) -> Result<Pla
 }
 
 fn read_named(alloc: Global, budget: u64, at: u32, words: &[Text]) -> Result<Plan, WordsRefused>
-    ensures { AnswersPlan result (after_dashes budget at words.now) }
+    ensures means { AnswersPlan result (after_dashes budget at words.now) }
+    ensures known { IfOk result (λ p. IsKnown p.script) }
 {
     let Some((file, args)) = words.split_first() else {
         return Err(usage(UsageKind::NoArgument, at));
@@ -172,7 +177,8 @@ fn read_named(alloc: Global, budget: u64, at: u32, words: &[Text]) -> Result<Pla
 }
 
 fn file_plan(alloc: Global, budget: u64, file: &Text, args: &[Text]) -> Result<Plan, Memory>
-    ensures { IfOk result (λ p. p ≡ record { check = false; boxed = false; budget = budget; script = ScriptFrom.File file.now; zero = file.now; args = args.now }) }
+    ensures means { IfOk result (λ p. p ≡ record { check = false; boxed = false; budget = budget; script = ScriptFrom.File file.now; zero = file.now; args = args.now }) }
+    ensures known { IfOk result (λ p. IsKnown p.script) }
 {
     let script = ScriptFrom::File(file.copy(alloc)?);
     let zero = file.copy(alloc)?;

@@ -23,8 +23,8 @@ use Rattle.kernel_ask.specs.declared.ask.Phase.TheVariants.{Made, Begun, Unrun, 
 use Rattle.shell_thread.specs.Kept.{with, emptied as emptied_list}
 use Rattle.shell_thread.specs.declared.album.ShellEnd.{ShellEnd}
 use Rattle.shell_thread.specs.declared.album.ShellStop.{ShellStop}
-use Rattle.shell_thread.specs.declared.album.ShellStop.TheVariants.{Meant, Spent, Memory as StopMemory, Unrun as IsUnrun}
-use Rattle.shell_family.specs.Told.{ForTold, Has, at_child, is_begun, is_settled, no_threads, is_no_thread}
+use Rattle.shell_thread.specs.declared.album.ShellStop.TheVariants.{Meant, Spent, Memory as StopMemory, Unrun as IsUnrun, Before as IsBefore}
+use Rattle.shell_family.specs.Told.{from, ForTold, Has, at_child, is_begun, is_settled, no_threads, is_no_thread}
 use Rattle.shell_family.specs.Meaning.{Run, RunTold, stop_by, status_by}
 use Rattle.std.specs.Prelude.{Result, Ok, Err}
 use Rattle.ksh_meaning.specs.Finished.{Done_so_far, Means, ended as finishes}
@@ -43,18 +43,18 @@ use Rattle.shell_family.specs.declared.forked.Awaited.{Awaited}
 use Rattle.shell_family.specs.declared.forked.Awaited.TheVariants.{Running, Joined}
 use Rattle.shell_family.specs.declared.forked.Shell.{Shell}
 use Rattle.shell_family.proofs.Counts.{same_or_not, set_end, cond_same, at_le, begun_le, is_in_begun}
-use Rattle.shell_family.proofs.Told.{has_more, has_last, no_threads_same, no_threads_more, told_weaker, all_parts}
+use Rattle.shell_family.proofs.Told.{from_more, from_emptied, has_more, has_last, no_threads_same, no_threads_more, told_weaker, all_parts}
 use Rattle.shell_family.proofs.Steps.{NewEnd, fits_noted, fits_ended, fits_first, family_done, fits_unrun, fits_begun, fits_ran, fits_joined, fits_waited, fits_forked, running_le}
 
 -- the mark of the child that was forked last
 pub marked_of :
     (s t : Seen Start) (start : Start) (k : ℕ) (b : Bool) → t ≡ marked (forked s start standard) k b → k ≡ length s.children + 1
-    → (t.name ≡ s.name) × (t.origin ≡ s.origin) × (t.children ≡ s.children ++ cond b Begun Unrun ∷ [])
+    → (t.name ≡ s.name) × (from t ≡ from s) × (t.children ≡ s.children ++ cond b Begun Unrun ∷ [])
     × (t.done ≡ more (more s.done (Fork start standard) (SaysForked k)) (Begin k) (cond b SaysBegun NoThread)) × (t.live ≡ s.live)
 marked_of s t start k b is next =
     let at : k - 1 ≡ length s.children = omega arith in (
       ap (λ (z : Seen Start). z.name) is,
-      ap (λ (z : Seen Start). z.origin) is,
+      ap (λ (z : Seen Start). from z) is ∙ (from_more s.origin (more s.done (Fork start standard) (SaysForked (length s.children + 1))) (Begin k) (cond b SaysBegun NoThread) ∙ from_more s.origin s.done (Fork start standard) (SaysForked (length s.children + 1))),
       ap (λ (z : Seen Start). z.children) is ∙ (ap (λ (j : ℕ). set (s.children ++ Made ∷ []) j (cond b Begun Unrun)) at ∙ set_end s.children Made (cond b Begun Unrun)),
       ap (λ (z : Seen Start). z.done) is ∙ ap (λ (j : ℕ). more (more s.done (Fork start standard) (SaysForked j)) (Begin k) (cond b SaysBegun NoThread)) (sym next),
       ap (λ (z : Seen Start). z.live) is,
@@ -94,6 +94,21 @@ is_run : (r : Result Flow Stop) → stop_by r ≡ IsUnrun → ⊥
 is_run (Ok flow) h = cc
 is_run (Err stop.Spent) h = cc
 is_run (Err stop.Memory) h = cc
+
+by_spent : (r : Result Flow Stop) (v : ℕ) → stop_by r ≡ Spent → status_by r v ≡ 123
+by_spent (Ok flow) v h = cc
+by_spent (Err stop.Spent) v h = refl
+by_spent (Err stop.Memory) v h = cc
+
+by_lost : (r : Result Flow Stop) (v : ℕ) → stop_by r ≡ StopMemory → status_by r v ≡ 121
+by_lost (Ok flow) v h = cc
+by_lost (Err stop.Spent) v h = cc
+by_lost (Err stop.Memory) v h = refl
+
+is_listed : (r : Result Flow Stop) → stop_by r ≡ IsBefore → ⊥
+is_listed (Ok flow) h = cc
+is_listed (Err stop.Spent) h = cc
+is_listed (Err stop.Memory) h = cc
 
 tells_run : (start : Start) (es : List (Entry Start)) (s : ShellState) (r : Result Flow Stop) → FedRun (Whole start (answers es)) (calls es) (finishes s r) → Run start es (stop_by r) (status_by r s.status)
 tells_run start es s (Ok flow) h = ((s, flow), h, refl)
@@ -147,7 +162,7 @@ module _ (Po P A R : Type 0) (sees : Po → Seen Start) (list : A → Option (Li
             p refl refl h.can h.job_name h.job_origin h.job_level refl);
       }
 
-  new_end : (s : Seen Start) (k : ℕ) (job : Forked Po P A) (e : ShellEnd Po A) → CanRun sees list job → job.name ≡ s.name ++ k ∷ [] → (sees job.port).origin ≡ s.origin
+  new_end : (s : Seen Start) (k : ℕ) (job : Forked Po P A) (e : ShellEnd Po A) → CanRun sees list job → job.name ≡ s.name ++ k ∷ [] → from (sees job.port) ≡ from s
       → e.name ≡ job.name → e.stop ≡ IsUnrun → e.status ≡ 254 → e.album ≡ job.album → sees e.port ≡ ended (sees job.port)
       → NewEnd Po P A R sees list level s k job.start e
   new_end s k job e can name origin is_name stop status album port =
@@ -155,7 +170,7 @@ module _ (Po P A R : Type 0) (sees : Po → Seen Start) (list : A → Option (Li
         name = is_name ∙ name;
         over = ap (λ (z : Seen Start). z.live) port;
         port_name = ap (λ (z : Seen Start). z.name) port ∙ (can.name ∙ sym is_name);
-        origin = ap (λ (z : Seen Start). z.origin) port ∙ origin;
+        origin = ap (λ (z : Seen Start). from z) port ∙ origin;
         run = rw (stop, status, ap (λ (z : Seen Start). z.done) port) (still (sees job.port).done can.done);
         family = family_done Po P A R sees list level (ended (sees job.port)) (list job.album) [] e (ap list album) port (λ j. refl)
             (fits_ended Po P A R sees list level (sees job.port) (list job.album) [] (fits_first Po P A R sees list level job can));
@@ -220,7 +235,7 @@ module _ (Po P A R : Type 0) (sees : Po → Seen Start) (list : A → Option (Li
       record {
         name = name;
         port_name = ap (λ (z : Seen Start). z.name) e;
-        origin = ap (λ (z : Seen Start). z.origin) e;
+        origin = ap (λ (z : Seen Start). from z) e ∙ from_more (sees a.port).origin (sees a.port).done (Begin k) (cond v SaysBegun NoThread);
         spawner = spawner;
         count = rw e (count v le);
       }
@@ -241,7 +256,7 @@ module _ (Po P A R : Type 0) (sees : Po → Seen Start) (list : A → Option (Li
         record {
           name = n.name ∙ name;
           port_name = n.port_name ∙ ap (λ (z : Seen Start). z.name) port;
-          origin = n.origin ∙ ap (λ (z : Seen Start). z.origin) port;
+          origin = n.origin ∙ ap (λ (z : Seen Start). from z) port;
           rise = (n.count.0, rw (← port) n.count.1, rw n.spawner (rose_less m n.count.0 (faults a.spawner) (faults c.spawner) n.count.2 r));
         }
 
@@ -256,7 +271,7 @@ module _ (Po P A R : Type 0) (sees : Po → Seen Start) (list : A → Option (Li
 
     -- a step that notes no start
     pub stays_quiet :
-        (a b : Shell Po P A R) (t : Seen Start) → b.name ≡ a.name → sees b.port ≡ t → t.name ≡ (sees a.port).name → t.origin ≡ (sees a.port).origin
+        (a b : Shell Po P A R) (t : Seen Start) → b.name ≡ a.name → sees b.port ≡ t → t.name ≡ (sees a.port).name → from t ≡ from (sees a.port)
         → no_threads t.done ≡ no_threads (sees a.port).done → faults b.spawner ≡ faults a.spawner
         → Stays sees faults a b
     stays_quiet a b t name port pn po count f =
@@ -322,7 +337,7 @@ module _ (Po P A R : Type 0) (sees : Po → Seen Start) (list : A → Option (Li
           budget = budget;
         };
         job_name = rw h.name is_name;
-        job_origin = ap (λ (z : Seen Start). z.origin) child;
+        job_origin = ap (λ (z : Seen Start). from z) child ∙ from_emptied (sees o.port).origin (sees o.port).done;
         job_level = deeper;
       }
     where
@@ -364,8 +379,11 @@ module _ (Po P A R : Type 0) (sees : Po → Seen Start) (list : A → Option (Li
         name = e_name ∙ (stays.name ∙ is_name);
         over = ap (λ (z : Seen Start). z.live) p;
         port_name = ap (λ (z : Seen Start). z.name) p ∙ (stays.port_name ∙ (ap (λ (z : Po). (sees z).name) is_port ∙ can.name));
-        origin = ap (λ (z : Seen Start). z.origin) p ∙ (stays.origin ∙ ap (λ (z : Po). (sees z).origin) is_port);
+        origin = ap (λ (z : Seen Start). from z) p ∙ (stays.origin ∙ ap (λ (z : Po). from (sees z)) is_port);
         ran = λ h. is_run r (sym stop ∙ h);
+        listed = λ h. is_listed r (sym stop ∙ h);
+        spent = λ h. status ∙ by_spent r state.status (sym stop ∙ h);
+        lost = λ h. status ∙ by_lost r state.status (sym stop ∙ h);
         run = rw (stop, status, ap (λ (z : Seen Start). z.done) p) (run_told job.start (sees a.port).done (sees b.port).done state r d means);
         family = family_done Po P A R sees list level (sees port) (list e.album) hs e refl (ap sees e_port)
             (λ k. let r = running_le Po P A R sees list level hs k in omega arith) fits;
@@ -477,7 +495,7 @@ module _ (Po P A R : Type 0) (sees : Po → Seen Start) (list : A → Option (Li
   given_back faults o a start (IsRefused why s) h b name handles album spawner = (
     same_shell o a (not_forked (sees o.port) start standard why) h name b.1 h.live refl h.none_made (ap (λ (z : Vec (ℕ × Awaited Po P A R) Global). z.items) handles) (ap list album) (rw album (omega arith))
         (fits_noted Po P A R sees list level (sees o.port) (list o.album) o.handles.items (Fork start standard) (Refused why) (λ k q. cc) h.fits),
-    stays_quiet faults o a (not_forked (sees o.port) start standard why) name b.1 refl refl
+    stays_quiet faults o a (not_forked (sees o.port) start standard why) name b.1 refl (from_more (sees o.port).origin (sees o.port).done (Fork start standard) (Refused why))
         (no_threads_same (sees o.port).done (Fork start standard) (Refused why) refl) (ap faults spawner),
   )
 

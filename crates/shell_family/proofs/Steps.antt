@@ -15,7 +15,7 @@ use Rattle.kernel_ask.specs.declared.ask.Phase.TheVariants.{Made, Begun, Unrun, 
 use Rattle.shell_thread.specs.Kept.{with}
 use Rattle.shell_thread.specs.declared.album.ShellEnd.{ShellEnd}
 use Rattle.shell_thread.specs.declared.album.ShellStop.TheVariants.{Unrun as IsUnrun}
-use Rattle.shell_family.specs.Told.{ForTold, Has, Saw, at_child, is_begun, is_settled, is_unrun, is_waited}
+use Rattle.shell_family.specs.Told.{from, ForTold, Has, Saw, at_child, is_begun, is_settled, is_unrun, is_waited}
 use Rattle.shell_family.specs.Meaning.{RunTold}
 use Rattle.shell_family.specs.Family.{number, named, ChildFits, Family, FamilyTo, CanRun, Runs}
 use Rattle.shell_family.specs.Fits.{Fits, IsKept, IsEach, JobFits, WaitFits, entry_of, running_of, running, is_running}
@@ -25,11 +25,11 @@ use Rattle.shell_family.specs.declared.forked.OutcomeOf.{OutcomeOf}
 use Rattle.shell_family.specs.declared.forked.Awaited.{Awaited}
 use Rattle.shell_family.specs.declared.forked.Awaited.TheVariants.{Running, Joined}
 use Rattle.shell_family.proofs.Counts.{same_or_not, cond_same, cond_other, cond_zero, at_past, at_end, at_set, at_le, begun_le, settled_le, waited_le, not_new, set_end, last_is, begun_others, begun_at}
-use Rattle.shell_family.proofs.Told.{has_more, has_last, saw_more, told_with, told_weaker, all_parts}
+use Rattle.shell_family.proofs.Told.{from_more, from_emptied, has_more, has_last, saw_more, told_with, told_weaker, all_parts}
 
 module _ (Po P A R : Type 0) (sees : Po → Seen Start) (list : A → Option (List (ShellEnd Po A))) (level : ℕ) where
   pub child_step :
-      (s t : Seen Start) (c : ShellEnd Po A) → t.name ≡ s.name → t.origin ≡ s.origin
+      (s t : Seen Start) (c : ShellEnd Po A) → t.name ≡ s.name → from t ≡ from s
       → at_child is_settled t.children (number c) ≡ at_child is_settled s.children (number c)
       → at_child is_unrun t.children (number c) ≡ at_child is_unrun s.children (number c)
       → ((a : Ask Start) (b : Answer) → Has s.done a b → Has t.done a b)
@@ -50,7 +50,7 @@ module _ (Po P A R : Type 0) (sees : Po → Seen Start) (list : A → Option (Li
   }
 
   job_step :
-      (s t : Seen Start) (k : ℕ) (job : Forked Po P A) → t.name ≡ s.name → t.origin ≡ s.origin
+      (s t : Seen Start) (k : ℕ) (job : Forked Po P A) → t.name ≡ s.name → from t ≡ from s
       → ((a : Ask Start) (b : Answer) → Has s.done a b → Has t.done a b)
       → JobFits sees list level s k job → JobFits sees list level t k job
   job_step s t k job n o has j = record {
@@ -62,14 +62,14 @@ module _ (Po P A R : Type 0) (sees : Po → Seen Start) (list : A → Option (Li
   }
 
   wait_step :
-      (s t : Seen Start) (ends : Option (List (ShellEnd Po A))) (k : ℕ) (a : Awaited Po P A R) → t.name ≡ s.name → t.origin ≡ s.origin
+      (s t : Seen Start) (ends : Option (List (ShellEnd Po A))) (k : ℕ) (a : Awaited Po P A R) → t.name ≡ s.name → from t ≡ from s
       → ((a : Ask Start) (b : Answer) → Has s.done a b → Has t.done a b)
       → WaitFits sees list level s ends k a → WaitFits sees list level t ends k a
   wait_step s t ends k (Running p) n o has w = (job_step s t k p.job.value n o has w.0, has _ _ w.1)
   wait_step s t ends k (Joined v) n o has w = w
 
   fits_grow :
-      (s t : Seen Start) (ends : Option (List (ShellEnd Po A))) (hs : List (ℕ × Awaited Po P A R)) → t.name ≡ s.name → t.origin ≡ s.origin
+      (s t : Seen Start) (ends : Option (List (ShellEnd Po A))) (hs : List (ℕ × Awaited Po P A R)) → t.name ≡ s.name → from t ≡ from s
       → ((w : Phase → ℕ) → w Made ≡ 0 → (k : ℕ) → at_child w t.children k ≡ at_child w s.children k)
       → ((a : Ask Start) (b : Answer) → Has s.done a b → Has t.done a b)
       → ((k v : ℕ) → Saw t.done (WaitShell k) (ShellEnded v) → Saw s.done (WaitShell k) (ShellEnded v))
@@ -94,14 +94,14 @@ module _ (Po P A R : Type 0) (sees : Po → Seen Start) (list : A → Option (Li
       (s : Seen Start) (ends : Option (List (ShellEnd Po A))) (hs : List (ℕ × Awaited Po P A R)) (x : Ask Start) (y : Answer)
       → ((k : ℕ) → WaitShell k ≡ x → ⊥) → Fits sees list level s ends hs → Fits sees list level record s { done = more s.done x y } ends hs
   fits_noted s ends hs x y never f =
-      fits_grow s record s { done = more s.done x y } ends hs refl refl (λ w z k. refl) (λ a b h. has_more s.done a x b y h)
+      fits_grow s record s { done = more s.done x y } ends hs refl (from_more s.origin s.done x y) (λ w z k. refl) (λ a b h. has_more s.done a x b y h)
       (λ k v z. elim (saw_more s.done (WaitShell k) x (ShellEnded v) y z) [ inl p ↦ p | inr e ↦ absurd (never k e.0) ]) f
 
   pub fits_forked :
       (s : Seen Start) (ends : Option (List (ShellEnd Po A))) (hs : List (ℕ × Awaited Po P A R)) (start : Start)
       → Fits sees list level s ends hs → Fits sees list level (forked s start standard) ends hs
   fits_forked s ends hs start f =
-      fits_grow s (forked s start standard) ends hs refl refl
+      fits_grow s (forked s start standard) ends hs refl (from_more s.origin s.done (Fork start standard) (SaysForked (length s.children + 1)))
       (λ w z k.
       let a = at_end w s.children Made (suc (length s.children)) k refl in
       let b : cond (eqb k (suc (length s.children))) (w Made) 0 ≡ 0 = rw z (cond_zero (eqb k (suc (length s.children)))) in omega arith)
@@ -113,7 +113,7 @@ module _ (Po P A R : Type 0) (sees : Po → Seen Start) (list : A → Option (Li
     pub name : e.name ≡ s.name ++ k ∷ []
     pub over : (sees e.port).live ≡ false
     pub port_name : (sees e.port).name ≡ e.name
-    pub origin : (sees e.port).origin ≡ s.origin
+    pub origin : from (sees e.port) ≡ from s
     pub run : RunTold start (sees e.port).done e.stop e.status
     pub family : Family sees list e
 
@@ -153,7 +153,7 @@ module _ (Po P A R : Type 0) (sees : Po → Seen Start) (list : A → Option (Li
   -- a fork and its mark, together
   module _
       (s t : Seen Start) (ends : Option (List (ShellEnd Po A))) (hs : List (ℕ × Awaited Po P A R)) (start : Start) (k : ℕ) (q : Phase) (ans : Answer)
-      (n : t.name ≡ s.name) (o : t.origin ≡ s.origin) (ch : t.children ≡ s.children ++ q ∷ [])
+      (n : t.name ≡ s.name) (o : from t ≡ from s) (ch : t.children ≡ s.children ++ q ∷ [])
       (dn : t.done ≡ more (more s.done (Fork start standard) (SaysForked k)) (Begin k) ans)
       (next : k ≡ suc (length s.children)) (f : Fits sees list level s ends hs) where
     has : (a : Ask Start) (b : Answer) → Has s.done a b → Has t.done a b
@@ -245,7 +245,7 @@ module _ (Po P A R : Type 0) (sees : Po → Seen Start) (list : A → Option (Li
     -- the job runs
     pub fits_begun :
         (p : OutcomeOf Po P A) → q ≡ Begun → ans ≡ SaysBegun → CanRun sees list p.job.value → p.job.value.name ≡ s.name ++ k ∷ []
-        → (sees p.job.value.port).origin ≡ s.origin → p.job.value.start.state.level ≡ level + 1 → p.job.value.start ≡ start
+        → from (sees p.job.value.port) ≡ from s → p.job.value.start.state.level ≡ level + 1 → p.job.value.start ≡ start
         → Fits sees list level t ends (hs ++ (k, Running p) ∷ [])
     fits_begun p is says can name origin level_is starts =
         let x : ℕ × Awaited Po P A R = (k, Running p) in
@@ -402,7 +402,7 @@ module _ (Po P A R : Type 0) (sees : Po → Seen Start) (list : A → Option (Li
       let place = begun_at s.children k begun in
       let i = place.0 in
       let n : t.name ≡ s.name = ap (λ (z : Seen Start). z.name) is in
-      let o : t.origin ≡ s.origin = ap (λ (z : Seen Start). z.origin) is in
+      let o : from t ≡ from s = ap (λ (z : Seen Start). from z) is ∙ from_more s.origin s.done (WaitShell k) (ShellEnded v) in
       let dn : t.done ≡ more s.done (WaitShell k) (ShellEnded v) = ap (λ (z : Seen Start). z.done) is in
       let at_i : k - 1 ≡ i = (let e = place.1 in omega arith) in
       let ch : t.children ≡ set s.children i Waited = ap (λ (z : Seen Start). z.children) is ∙ ap (λ (j : ℕ). set s.children j Waited) at_i in
@@ -450,7 +450,7 @@ module _ (Po P A R : Type 0) (sees : Po → Seen Start) (list : A → Option (Li
       }
     where
       olds :
-          (ends : Option (List (ShellEnd Po A))) → t.name ≡ s.name → t.origin ≡ s.origin
+          (ends : Option (List (ShellEnd Po A))) → t.name ≡ s.name → from t ≡ from s
           → ((w : Phase → ℕ) → w Begun ≡ w Waited → (j : ℕ) → at_child w t.children j ≡ at_child w s.children j)
           → ((a : Ask Start) (b : Answer) → Has s.done a b → Has t.done a b)
           → ((j u : ℕ) → Saw t.done (WaitShell j) (ShellEnded u) → Saw s.done (WaitShell j) (ShellEnded u) ⊎ ((j ≡ k) × (u ≡ v)))

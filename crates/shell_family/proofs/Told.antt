@@ -1,7 +1,8 @@
 -- Transcripts that grow by one entry.
-use Rattle.std.proofs.Common.{◌≡◌, ◌≢◌, ℕ, ◌+◌, ◌⊎◌, inl, inr, List, [], ◌∷◌, ◌++◌, map, All, Option, Some, None, refl, ap, sym, ◌∙◌, arith, subst}
+use Rattle.std.proofs.Common.{◌≡◌, ◌≢◌, ℕ, ◌+◌, ◌⊎◌, inl, inr, List, [], ◌∷◌, ◌++◌, map, All, Option, Some, None, refl, ap, sym, ◌∙◌, arith, subst, Bool}
 use Rattle.std.proofs.lemmas.List.Elements.{All-push, All-weaker, All-head, All-tail, All-cons, All-nil}
-use Rattle.kernel_ask.specs.Seen.{more}
+use Rattle.std.specs.Prelude.{is_some}
+use Rattle.kernel_ask.specs.Seen.{more, emptied}
 use Rattle.kernel_ask.specs.declared.ask.Answer.{Answer}
 use Rattle.kernel_ask.specs.declared.ask.Ask.{Ask}
 use Rattle.kernel_ask.specs.declared.ask.Entry.{Entry}
@@ -10,6 +11,21 @@ use Rattle.shell_family.specs.Told.{ForTold, Has, Saw, In, no_threads, no_thread
 use Rattle.shell_family.proofs.Counts.{in_more, in_end, in_split}
 
 module _ {F : Type 0} where
+  told_same : (d : Option (List (Entry F))) (x : Ask F) (y : Answer) → is_some (more d x y) ≡ is_some d
+  told_same None x y = refl
+  told_same (Some es) x y = refl
+
+  -- one entry more leaves the world and whether it is told
+  pub from_more : (o : ℕ) (d : Option (List (Entry F))) (x : Ask F) (y : Answer) → ◌≡◌ {A = ℕ × Bool} (o, is_some (more d x y)) (o, is_some d)
+  from_more o d x y = ap (λ (b : Bool). (o, b)) (told_same d x y)
+
+  emptied_same : (d : Option (List (Entry F))) → is_some (emptied d) ≡ is_some d
+  emptied_same None = refl
+  emptied_same (Some es) = refl
+
+  pub from_emptied : (o : ℕ) (d : Option (List (Entry F))) → ◌≡◌ {A = ℕ × Bool} (o, is_some (emptied d)) (o, is_some d)
+  from_emptied o d = ap (λ (b : Bool). (o, b)) (emptied_same d)
+
   pub has_more : (d : Option (List (Entry F))) (a x : Ask F) (b y : Answer) → Has d a b → Has (more d x y) a b
   has_more None a x b y h = tt
   has_more (Some es) a x b y h = in_more _ es _ h

@@ -6,8 +6,8 @@ use Rattle.kernel_ask.specs.Seen.{Seen}
 use Rattle.kernel_ask.specs.declared.ask.Answer.TheVariants.{Forked as SaysForked, Begun as SaysBegun, NoThread, ShellEnded}
 use Rattle.kernel_ask.specs.declared.ask.Ask.TheVariants.{Fork, Begin, WaitShell}
 use Rattle.shell_thread.specs.declared.album.ShellEnd.{ShellEnd}
-use Rattle.shell_thread.specs.declared.album.ShellStop.TheVariants.{Unrun}
-use Rattle.shell_family.specs.Told.{ForTold, Has, Saw, at_child, is_unrun, is_settled}
+use Rattle.shell_thread.specs.declared.album.ShellStop.TheVariants.{Unrun, Before, Spent, Memory}
+use Rattle.shell_family.specs.Told.{from, ForTold, Has, Saw, at_child, is_unrun, is_settled}
 use Rattle.shell_family.specs.Meaning.{RunTold}
 use Rattle.shell_state.specs.declared.start.Start.{Start}
 use Rattle.shell_state.specs.declared.state.ShellState.{ShellState}
@@ -32,7 +32,7 @@ pub record ChildFits {Po A : Type 0} (sees : Po → Seen Start) (s : Seen Start)
   pub name : c.name ≡ s.name ++ number c ∷ []
   pub over : (sees c.port).live ≡ false
   pub port_name : (sees c.port).name ≡ c.name
-  pub origin : (sees c.port).origin ≡ s.origin
+  pub origin : from (sees c.port) ≡ from s
   pub child : at_child is_settled s.children (number c) ≡ 1
   pub unrun : c.stop ≡ Unrun → at_child is_unrun s.children (number c) ≡ 1
   pub ran : (c.stop ≡ Unrun → ⊥) → at_child is_unrun s.children (number c) ≡ 0
@@ -66,8 +66,11 @@ pub record Runs {Po P A : Type 0} (sees : Po → Seen Start) (list : A → Optio
   pub name : e.name ≡ job.name
   pub over : (sees e.port).live ≡ false
   pub port_name : (sees e.port).name ≡ job.name
-  pub origin : (sees e.port).origin ≡ (sees job.port).origin
+  pub origin : from (sees e.port) ≡ from (sees job.port)
   pub ran : e.stop ≡ Unrun → ⊥
+  pub listed : e.stop ≡ Before → ⊥
+  pub spent : e.stop ≡ Spent → e.status ≡ 123
+  pub lost : e.stop ≡ Memory → e.status ≡ 121
   pub run : RunTold job.start (sees e.port).done e.stop e.status
   pub family : Family sees list e
 

@@ -6,7 +6,7 @@ use Rattle.kernel_ask.specs.Causes.{RoseBy}
 use Rattle.kernel_ask.specs.declared.ask.Answer.TheVariants.{Forked as SaysForked, Begun as SaysBegun, NoThread, ShellEnded}
 use Rattle.kernel_ask.specs.declared.ask.Ask.TheVariants.{Fork, Begin, WaitShell}
 use Rattle.shell_thread.specs.declared.album.ShellEnd.{ShellEnd}
-use Rattle.shell_family.specs.Told.{ForTold, Has, Saw, at_child, is_begun, is_waited, is_settled, no_threads}
+use Rattle.shell_family.specs.Told.{from, ForTold, Has, Saw, at_child, is_begun, is_waited, is_settled, no_threads}
 use Rattle.shell_family.specs.Family.{number, named, ChildFits, Family, CanRun}
 use Rattle.shell_state.specs.declared.start.Start.{Start}
 use Rattle.shell_family.specs.declared.forked.Forked.{Forked}
@@ -32,7 +32,7 @@ running hs = sum_by (λ h. is_running h.1) hs
 pub record JobFits {Po P A : Type 0} (sees : Po → Seen Start) (list : A → Option (List (ShellEnd Po A))) (level : ℕ) (s : Seen Start) (k : ℕ) (job : Forked Po P A) : Type 0 where
   pub can : CanRun sees list job
   pub name : job.name ≡ s.name ++ k ∷ []
-  pub origin : (sees job.port).origin ≡ s.origin
+  pub origin : from (sees job.port) ≡ from s
   pub level_is : job.start.state.level ≡ level + 1
   pub forked : Has s.done (Fork job.start standard) (SaysForked k)
 
@@ -68,7 +68,7 @@ pub record IsShell {Po P A R : Type 0} (sees : Po → Seen Start) (list : A → 
 pub record Stays {Po P A R : Type 0} (sees : Po → Seen Start) (faults : P → ℕ) (old new : Shell Po P A R) : Type 0 where
   pub name : new.name ≡ old.name
   pub port_name : (sees new.port).name ≡ (sees old.port).name
-  pub origin : (sees new.port).origin ≡ (sees old.port).origin
+  pub origin : from (sees new.port) ≡ from (sees old.port)
   pub rise : (n : ℕ) × (no_threads (sees new.port).done ≡ no_threads (sees old.port).done + n) × RoseBy n (faults old.spawner) (faults new.spawner)
 
 -- a fork was recorded, and the child is to be started
@@ -85,7 +85,7 @@ pub record IsPending {Po P A R : Type 0} (sees : Po → Seen Start) (list : A �
   pub fits : Fits sees list level before (list sh.album) sh.handles.items
   pub can : CanRun sees list job
   pub job_name : job.name ≡ before.name ++ k ∷ []
-  pub job_origin : (sees job.port).origin ≡ before.origin
+  pub job_origin : from (sees job.port) ≡ from before
   pub job_level : job.start.state.level ≡ level + 1
 
 -- what is left of a shell when it joins its children
@@ -97,7 +97,7 @@ pub record IsJoining {Po P A R : Type 0} (sees : Po → Seen Start) (list : A �
 pub record Noted {Po P A R : Type 0} (sees : Po → Seen Start) (m : ℕ) (old new : Shell Po P A R) : Type 0 where
   pub name : new.name ≡ old.name
   pub port_name : (sees new.port).name ≡ (sees old.port).name
-  pub origin : (sees new.port).origin ≡ (sees old.port).origin
+  pub origin : from (sees new.port) ≡ from (sees old.port)
   pub spawner : new.spawner ≡ old.spawner
   pub count : (n : ℕ) × (no_threads (sees new.port).done ≡ no_threads (sees old.port).done + n) × (n ≤ m)
 

@@ -1,6 +1,7 @@
 -- Lists that may not be told, and counts over them.
-use Rattle.std.specs.Prelude.{◌≡◌, ℕ, ◌+◌, eqb, cond, ◌⊎◌, List, [], ◌∷◌, Option, Some, None}
+use Rattle.std.specs.Prelude.{◌≡◌, ℕ, ◌+◌, eqb, cond, ◌⊎◌, List, [], ◌∷◌, Option, Some, None, is_some, Bool}
 use Rattle.std.proofs.Common.{zero, suc}
+use Rattle.kernel_ask.specs.Seen.{Seen}
 use Rattle.kernel_ask.specs.declared.ask.Answer.{Answer}
 use Rattle.kernel_ask.specs.declared.ask.Ask.{Ask}
 use Rattle.kernel_ask.specs.declared.ask.Ask.TheVariants.{Asked, Fork, Begin, WaitShell}
@@ -12,6 +13,10 @@ use Rattle.kernel_ask.specs.declared.ask.Answer.TheVariants.{Forked, Refused, Be
 abbrev pub ForTold : {X : Type 0} → Option X → (X → Type 0) → Type 0
 ForTold None P = Unit {0}
 ForTold (Some x) P = P x
+
+-- which world a port is of, and whether it tells its transcript; no call changes either
+abbrev pub from : {F : Type 0} → Seen F → ℕ × Bool
+from s = (s.origin, is_some s.done)
 
 abbrev pub In : {X : Type 0} → X → List X → Type 0
 In x [] = ⊥

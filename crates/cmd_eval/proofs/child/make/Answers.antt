@@ -3,13 +3,13 @@ use Rattle.kernel_ask.specs.Seen.{forked}
 use Rattle.ksh_meaning.specs.Subshell.{standard}
 use Rattle.shell_state.specs.declared.start.Start.{Start}
 use Rattle.shell_family.proofs.Shells.{pending_shell, stays_join, stays_quiet, name_set, given_back}
-use Rattle.shell_family.proofs.Told.{no_threads_same}
+use Rattle.shell_family.proofs.Told.{no_threads_same, from_more}
 use Rattle.cmd_eval.proofs.child.make.Goals as goal
 
 pub returns-in-Ok-clause-stays : goal.returns-in-Ok-clause-stays
 returns-in-Ok-clause-stays g c =
     stays_join _ _ _ _ _ g.A.Album.list g.A.Album.spare c.args.state.now.level _ _ _ _ c.ready.ensures.stays
-    (stays_quiet _ _ _ _ _ g.A.Album.list g.A.Album.spare c.args.state.now.level _ _ _ _ refl c.in-Ok.ensures.parent refl refl
+    (stays_quiet _ _ _ _ _ g.A.Album.list g.A.Album.spare c.args.state.now.level _ _ _ _ refl c.in-Ok.ensures.parent refl (from_more (g.Po.Port.sees c.ready.new.shell.port).origin (g.Po.Port.sees c.ready.new.shell.port).done _ _)
     (no_threads_same (g.Po.Port.sees c.ready.new.shell.port).done _ _ refl) refl)
 
 pub returns-in-Ok-clause-shell : goal.returns-in-Ok-clause-shell

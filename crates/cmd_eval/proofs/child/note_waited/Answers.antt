@@ -1,7 +1,7 @@
 use Rattle.std.proofs.Common.{◌≡◌, ◌≤◌, ◌+◌, ◌-◌, ◌++◌, ◌∷◌, [], ℕ, length, length-append, take, ap, refl, arith, rules, ◌∙◌, sym}
 use Rattle.std.proofs.Math.Seq.{take-append_seam}
 use Rattle.shell_family.proofs.Shells.{waited_shell, last_begun, stays_quiet}
-use Rattle.shell_family.proofs.Told.{no_threads_same}
+use Rattle.shell_family.proofs.Told.{no_threads_same, from_more}
 use Rattle.shell_family.specs.declared.forked.Awaited.TheVariants.{Joined}
 use Rattle.cmd_eval.proofs.child.note_waited.Goals as goal
 
@@ -18,5 +18,5 @@ returns-clause-shell g c =
 
 pub returns-clause-stays : goal.returns-clause-stays
 returns-clause-stays g c =
-    stays_quiet _ _ _ _ _ g.A.Album.list g.A.Album.spare c.args.level _ _ _ _ refl c.waited.ensures.waits refl refl
+    stays_quiet _ _ _ _ _ g.A.Album.list g.A.Album.spare c.args.level _ _ _ _ refl c.waited.ensures.waits refl (from_more (g.Po.Port.sees c.args.shell.now.port).origin (g.Po.Port.sees c.args.shell.now.port).done _ _)
     (no_threads_same (g.Po.Port.sees c.args.shell.now.port).done _ _ refl) refl

@@ -3,7 +3,7 @@ use Rattle.kernel_ask.specs.Seen.{Seen}
 use Rattle.ksh_meaning.specs.Laws.{means_asked, means_unasked, means_not_asked}
 use Rattle.shell_state.specs.declared.start.Start.{Start}
 use Rattle.shell_family.proofs.Shells.{acted_shell, stays_quiet}
-use Rattle.shell_family.proofs.Told.{no_threads_same}
+use Rattle.shell_family.proofs.Told.{no_threads_same, from_more}
 use Rattle.cmd_eval.proofs.plain.ask.Goals as goal
 
 pub returns-then-not-spend-clause-means : goal.returns-then-not-spend-clause-means
@@ -17,7 +17,7 @@ returns-in-Ok-clause-shell g c = acted_shell _ _ _ _ _ _ _ _ _ _ _ _ c.requires 
 
 pub returns-in-Ok-clause-stays : goal.returns-in-Ok-clause-stays
 returns-in-Ok-clause-stays g c =
-    stays_quiet _ _ _ _ _ g.A.Album.list g.A.Album.spare c.args.state.now.level _ _ _ _ refl c.in-Ok.ensures.ok refl refl
+    stays_quiet _ _ _ _ _ g.A.Album.list g.A.Album.spare c.args.state.now.level _ _ _ _ refl c.in-Ok.ensures.ok refl (from_more (g.Po.Port.sees c.args.shell.now.port).origin (g.Po.Port.sees c.args.shell.now.port).done _ _)
     (no_threads_same (g.Po.Port.sees c.args.shell.now.port).done _ _ refl) refl
 
 pub returns-in-Err-clause-means : goal.returns-in-Err-clause-means

@@ -1,0 +1,4 @@
+pub mod Fault
+pub mod Tokens
+pub mod Words
+pub mod Grammar

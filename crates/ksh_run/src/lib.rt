@@ -1,0 +1,9 @@
+//! Runs scripts: the one call that the program makes.
+#![tactic(auto)]
+
+mod ended;
+mod refuse;
+mod run;
+mod texts;
+
+pub use ended::{Ended, Why};
