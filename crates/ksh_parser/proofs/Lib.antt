@@ -1,0 +1,5 @@
+pub mod Complete
+pub mod Ends
+pub mod Pieces
+pub mod Runs
+pub mod Sound
