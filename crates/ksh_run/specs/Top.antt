@@ -7,9 +7,10 @@ use Rattle.ksh_base.specs.Source.{Rose}
 use Rattle.ksh_base.specs.Words.{words_plan}
 use Rattle.ksh_base.specs.declared.words.Plan.{Plan}
 use Rattle.ksh_meaning.specs.Output.{write}
+use Rattle.ksh_parser.specs.declared.fault.SyntaxFault.{SyntaxFault}
 use Rattle.ksh_parser.specs.Fault.{not_in_profile}
 use Rattle.ksh_parser.specs.Grammar.{IsScript}
-use Rattle.ksh_run.specs.Script.{HasText, HasFailed}
+use Rattle.ksh_run.specs.Script.{HasText, HasFailed, IsFile, IsText}
 use Rattle.ksh_run.specs.Texts.{usage_line, source_line, syntax_line}
 use Rattle.ksh_run.specs.declared.ended.Ended.{Ended}
 use Rattle.ksh_run.specs.declared.ended.Why.{Why}
@@ -104,3 +105,17 @@ module _ {Po A : Type 0} (sees : Po → Seen Start) where
 
   abbrev pub EndsRun : ℕ → List Item → Ended Po A → Type 0
   EndsRun budget list e = HasRoot e.root (EndsList budget list e.why e.status) ⊎ IsLost e.why e.status e.root
+
+  -- how it ends from a text: a run of the tree, a refusal where there is none, or memory ran out
+  abbrev pub EndsText : ℕ → List ℕ → Ended Po A → Type 0
+  EndsText budget text e =
+      HasRoot e.root (λ r. (list : List Item) × IsScript text list × EndsList budget list e.why e.status r)
+      ⊎ (((f : SyntaxFault) × (f ≡ not_in_profile) × ((list : List Item) → IsScript text list → ⊥) × (e.why ≡ Syntax f) × (e.status ≡ 2) × HasRoot e.root (IsRefused (syntax_line f) 2))
+      ⊎ IsLost e.why e.status e.root)
+
+  -- how it ends from a plan
+  abbrev pub EndsPlan : Plan → Option (List ℕ) → ℕ → ℕ → Ended Po A → Type 0
+  EndsPlan plan left before now e =
+      ((now ≡ before) × ((text : List ℕ) × IsText plan.script left text × EndsText plan.budget text e))
+      ⊎ ((IsFile plan.script × Rose before now × (e.why ≡ SourceFault) × (e.status ≡ 122) × HasRoot e.root (IsRefused source_line 122))
+      ⊎ IsLost e.why e.status e.root)

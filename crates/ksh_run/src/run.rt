@@ -1,10 +1,11 @@
 // The top call.
-ghost use Rattle.std.specs.Prelude.{◌≡◌, [], IfOk, OnOk, IsErrOf, MatchResult};
+ghost use Rattle.std.specs.Prelude.{◌≡◌, [], None, IfOk, OnOk, IsErrOf};
 ghost use Rattle.ksh_base.specs.Source.{Rose};
-ghost use Rattle.ksh_base.specs.Words.{IsKnown, words_plan};
-ghost use Rattle.ksh_run.specs.Script.{IsText, IsFile, HasText};
-ghost use Rattle.ksh_run.specs.Top.{EndsBy, IsFresh, IsRoot, EndsRun, why_of};
-ghost use Rattle.ksh_parser.specs.Grammar.{IsScript};
+ghost use Rattle.ksh_base.specs.Words.{IsKnown};
+ghost use Rattle.ksh_run.specs.Script.{IsText, IsFile};
+ghost use Rattle.ksh_run.specs.Texts.{usage_line};
+ghost use Rattle.ksh_run.specs.Top.{EndsBy, EndsPlan, EndsRun, EndsText, IsFresh, IsRoot, Refuses, why_of};
+ghost use Rattle.ksh_run.specs.declared.ended.Why.TheVariants.{Memory, Usage};
 ghost use Rattle.shell_family.specs.Told.{ForTold, from};
 ghost use Rattle.ksh_base.specs.declared.source.ReadRefused.{ReadRefused};
 
@@ -14,7 +15,8 @@ use crate::texts::{source_text, syntax_text, usage_text};
 use cmd_eval::run_job;
 use kernel_ask::{Port, World};
 use ksh_base::{
-    Plan, ReadRefused, ScriptFrom, ShellName, Source, Text, WordsRefused, read_script, read_words,
+    Plan, ReadRefused, ScriptFrom, ShellName, Source, Text, UsageFault, WordsRefused, read_script,
+    read_words,
 };
 use ksh_parser::{SyntaxRefused, parse_script};
 use ksh_script::List;
@@ -86,5 +88,124 @@ fn why_of(stop: ShellStop) -> Why
         ShellStop::Meant => Why::Meant,
         ShellStop::Spent => Why::Spent,
         _ => Why::Memory,
+    }
+}
+
+// Runs the script that the text is, or refuses it.
+fn run_text<Po: Port<Start> + 'static, P: Spawner + 'static, A: Album<Po> + 'static>(
+    alloc: Global,
+    budget: u64,
+    text: &[u8],
+    port: Po,
+    spawner: P,
+    album: A,
+) -> Ended<Po, A>
+    requires fresh { IsFresh (Po.sees port) }
+    requires album { ForTold (A.list album) (λ ends. ends ≡ []) }
+    ensures ends { EndsText Po.sees budget text.now result }
+    ensures root { ForTold result.root (IsRoot Po.sees A.list (from (Po.sees port))) }
+{
+    match parse_script(alloc, text) {
+        Ok(list) => run_list(alloc, budget, list, port, spawner, album),
+        Err(SyntaxRefused::Fault(fault)) => match syntax_text(alloc, fault) {
+            Ok(line) => refuse(alloc, port, album, Why::Syntax(fault), 2, line),
+            Err(_) => lose(alloc, port, album),
+        },
+        Err(SyntaxRefused::Memory) => lose(alloc, port, album),
+    }
+}
+
+// Reads the script and runs it.
+fn run_plan<S: Source, Po: Port<Start> + 'static, P: Spawner + 'static, A: Album<Po> + 'static>(
+    alloc: Global,
+    plan: Plan,
+    source: &mut S,
+    port: Po,
+    spawner: P,
+    album: A,
+) -> Ended<Po, A>
+    requires known { IsKnown plan.script }
+    requires fresh { IsFresh (Po.sees port) }
+    requires album { ForTold (A.list album) (λ ends. ends ≡ []) }
+    ensures ends { EndsPlan Po.sees plan (S.left source.old) (S.faults source.old) (S.faults source.new) result }
+    ensures root { ForTold result.root (IsRoot Po.sees A.list (from (Po.sees port))) }
+{
+    match script_text(alloc, source, plan.script) {
+        Ok(text) => run_text(alloc, plan.budget, text.bytes(), port, spawner, album),
+        Err(ReadRefused::Failed) => match source_text(alloc) {
+            Ok(line) => refuse(alloc, port, album, Why::SourceFault, 122, line),
+            Err(_) => lose(alloc, port, album),
+        },
+        Err(ReadRefused::Memory) => lose(alloc, port, album),
+    }
+}
+
+// The words have a fault.
+fn refuse_words<Po: Port<Start>, A: Album<Po>>(
+    alloc: Global,
+    fault: UsageFault,
+    port: Po,
+    album: A,
+) -> Ended<Po, A>
+    requires fresh { IsFresh (Po.sees port) }
+    requires album { ForTold (A.list album) (λ ends. ends ≡ []) }
+    ensures refuses { Refuses Po.sees (Usage fault) (usage_line fault) 2 result }
+    ensures root { ForTold result.root (IsRoot Po.sees A.list (from (Po.sees port))) }
+{
+    match usage_text(alloc, fault) {
+        Ok(line) => refuse(alloc, port, album, Why::Usage(fault), 2, line),
+        Err(_) => lose(alloc, port, album),
+    }
+}
+
+// Memory ran out before there was a root.
+fn no_root<Po, A>() -> Ended<Po, A>
+    ensures { (result.why ≡ Memory) × (result.status ≡ 121) × (result.root ≡ None) }
+{
+    Ended {
+        status: 121,
+        why: Why::Memory,
+        root: None,
+    }
+}
+
+/// Runs the program's words: the script that they name, in a root shell of the world, and all that
+/// it forks.
+///
+/// In this order: the words, the root's port, the source, the script's text, the run. `Usage`
+/// comes exactly where the words have that fault, `SourceFault` exactly where a read of this call
+/// failed, `Syntax` exactly where the text is no script, and each of them has written one line on
+/// handle 2; else the root is a run of the script's list, and `Meant` and `Spent` are the meaning's.
+/// Want of memory may come at each step.
+pub fn run_shell<
+    S: Source,
+    W: World<Start> + Drop,
+    P: Spawner + 'static,
+    A: Album<W::Port> + 'static,
+>(
+    alloc: Global,
+    words: &[Text],
+    env: &[(Text, Text)],
+    source: &mut S,
+    world: W,
+    spawner: P,
+    album: A,
+) -> Ended<W::Port, A>
+    requires env { env.now ≡ [] }
+    requires album { ForTold (A.list album) (λ ends. ends ≡ []) }
+    ensures ends { EndsBy W.Port.sees words.now (S.left source.old) (S.faults source.old) (S.faults source.new) result.why result.status result.root }
+    ensures root { ForTold result.root (IsRoot W.Port.sees A.list (W.origin world, W.told world)) }
+{
+    let _ = env;
+    match read_words(alloc, words) {
+        Ok(plan) => match world.root(alloc) {
+            Ok(port) => run_plan(alloc, plan, source, port, spawner, album),
+            Err(_) => no_root(),
+        },
+        Err(WordsRefused::Usage(fault)) => match world.root(alloc) {
+            Ok(port) => refuse_words(alloc, fault, port, album),
+            Err(_) => no_root(),
+        },
+        Err(WordsRefused::Memory) => no_root(),
     }
 }
