@@ -7,3 +7,4 @@ mod run;
 mod texts;
 
 pub use ended::{Ended, Why};
+pub use run::{MOST_READ, run_shell};
