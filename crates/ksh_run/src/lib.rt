@@ -4,6 +4,8 @@
 mod ended;
 mod refuse;
 mod run;
+#[cfg(test)]
+mod tests;
 mod texts;
 
 pub use ended::{Ended, Why};
