@@ -1,6 +1,6 @@
 -- What may become of a start: a thread only where threads are asked for, a refusal only where a
 -- fault was counted.
-use Rattle.std.specs.Prelude.{◌≡◌, ℕ, ◌≤◌, Bool, true, List, Contains}
+use Rattle.std.specs.Prelude.{◌≡◌, ℕ, ◌≤◌, Bool, true, ⊤, List, Contains}
 use Rattle.kernel_ask.specs.Causes.{RoseBy}
 use Rattle.shell_thread.specs.declared.spawner.Way.{Way}
 use Rattle.shell_thread.specs.declared.spawner.Way.TheVariants.{Here, Thread, Refused}
@@ -15,3 +15,9 @@ abbrev pub FitsList : List ℕ → ℕ → Way → Type 0
 FitsList refused place Here = Contains refused place → ⊥
 FitsList refused place (Thread _) = ⊥
 FitsList refused place Refused = Contains refused place
+
+-- the job gets a thread of its own, where one can be had
+abbrev pub IsThread : Way → Type 0
+IsThread Here = ⊥
+IsThread (Thread _) = ⊤
+IsThread Refused = ⊥

@@ -59,10 +59,10 @@ pub trait Spawner: Sized + Send + Drop {
         ensures cause { FitsWay (faults self.old) (faults self.new) (threads self.old) result }
         ensures same { threads self.new ≡ threads self.old };
 
-    /// Counts a thread that wasn't had.
+    /// Counts a thread that wasn't had, where threads are asked for.
     fn miss(&mut self)
-        requires threads { threads self.old ≡ true }
-        ensures rose { RoseBy 1 (faults self.old) (faults self.new) }
+        ensures rose { threads self.old ≡ true → RoseBy 1 (faults self.old) (faults self.new) }
+        ensures later { faults self.old ≤ faults self.new }
         ensures same { threads self.new ≡ threads self.old };
 
     /// Its handle of the system's threads.

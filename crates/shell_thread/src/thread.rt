@@ -1,6 +1,7 @@
 // A spawner that starts threads.
-ghost use Rattle.std.specs.Prelude.{◌≡◌, true};
+ghost use Rattle.std.specs.Prelude.{◌≡◌, ◌<◌, true};
 ghost use Rattle.shell_thread.specs.Room.{flags_of};
+ghost use Rattle.shell_thread.specs.Ways.{FitsWay, IsThread};
 
 use crate::spawner::{Flag, Spawner, Way};
 use ksh_base::Memory;
@@ -37,7 +38,12 @@ impl<R: Threads + Copy + Send> Spawner for ThreadSpawner<R> {
 
     ghost threads = { λ _. true };
 
-    fn way(&mut self) -> Way {
+    fn way(&mut self) -> Way
+        requires room { 0 < flags_of self.old.flag }
+        ensures cause { FitsWay self.old.faults self.new.faults true result }
+        ensures same { true ≡ true }
+        ensures thread { IsThread result }
+    {
         match self.flag.take() {
             Some(flag) => Way::Thread(flag),
             None => unreachable!(),
