@@ -1,5 +1,5 @@
 -- How tokens are read, one by one, with the lists that are open.
-use Rattle.std.specs.Prelude.{◌≡◌, ℕ, ◌+◌, ◌&&◌, Bool, true, false, nat_lt, List, [], ◌∷◌, ◌++◌, length, Option, Some, None, option_map, option_and_then, if◌then◌else◌, codes}
+use Rattle.std.specs.Prelude.{ℕ, ◌+◌, Bool, true, false, nat_lt, List, [], ◌∷◌, ◌++◌, length, Option, Some, None, option_map, option_and_then, if◌then◌else◌, codes}
 use Rattle.ksh_base.specs.Text.{same_numbers}
 use Rattle.ksh_script.specs.declared.tree.Item.{Item}
 use Rattle.ksh_script.specs.declared.tree.Command.TheVariants as tree
