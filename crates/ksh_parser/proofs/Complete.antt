@@ -13,10 +13,11 @@ use Rattle.ksh_parser.specs.declared.state.Pending.{Pending}
 use Rattle.ksh_parser.specs.declared.state.Pending.TheVariants.{Nothing, Print, Assign, Subshell}
 use Rattle.ksh_parser.specs.declared.state.State.{State}
 use Rattle.ksh_parser.specs.Tokens.{Token, Newline, Semicolon, Open, Doubled, Close, Run, newlines}
-use Rattle.ksh_parser.specs.Words.{assign_of}
+use Rattle.ksh_parser.specs.Pieces.{word_of, assign_of}
 use Rattle.ksh_parser.specs.Grammar.{IsList, nothing, newline, semicolon, command, IsCommand, print, assign, subshell, AreWords, AreAssigns, IsScript, item}
 use Rattle.ksh_parser.specs.Reading.{closed, ends, finish, is_open, item_of, run, start, step}
 use Rattle.ksh_parser.proofs.Ends.{run_append}
+use Rattle.ksh_parser.proofs.Spelled.{assign_complete, word_complete}
 
 abbrev pub at : ℕ → List Frame → List Item → Pending → State
 at line outer items last = record { line = line; outer = outer; items = items; pending = last }
@@ -53,7 +54,7 @@ words_read line at_line outer before done [] ts are =
     ∙ ap (λ ws. Some (at (line + 0) outer before (Print at_line ws))) (sym (append-nil done)))
 words_read line at_line outer before done (w ∷ words) ts are =
     subst (λ xs. run (at line outer before (Print at_line done)) xs ≡ Some (at (line + newlines xs) outer before (Print at_line (done ++ w ∷ words)))) (sym are.2)
-    (ap (λ o. option_and_then (λ next. run next are.1) (option_map (λ p. at line outer before p) (option_map (λ v. Print at_line (done ++ v ∷ [])) o))) are.3
+    (ap (λ o. option_and_then (λ next. run next are.1) (option_map (λ p. at line outer before p) (option_map (λ v. Print at_line (done ++ v ∷ [])) o))) (word_complete are.0 w are.3)
     ∙ words_read line at_line outer before (done ++ w ∷ []) words are.1 are.4
     ∙ ap (λ ws. Some (at (line + newlines are.1) outer before (Print at_line ws))) (append_assoc done (w ∷ []) words))
 
@@ -66,7 +67,7 @@ assigns_read line at_line outer before done [] ts are =
     ∙ ap (λ ws. Some (at (line + 0) outer before (Assign at_line ws))) (sym (append-nil done)))
 assigns_read line at_line outer before done (a ∷ rest) ts are =
     subst (λ xs. run (at line outer before (Assign at_line done)) xs ≡ Some (at (line + newlines xs) outer before (Assign at_line (done ++ a ∷ rest)))) (sym are.2)
-    (ap (λ o. option_and_then (λ next. run next are.1) (option_map (λ p. at line outer before p) (option_map (λ v. Assign at_line (done ++ v ∷ [])) o))) are.3
+    (ap (λ o. option_and_then (λ next. run next are.1) (option_map (λ p. at line outer before p) (option_map (λ v. Assign at_line (done ++ v ∷ [])) o))) (assign_complete are.0 a are.3)
     ∙ assigns_read line at_line outer before (done ++ a ∷ []) rest are.1 are.4
     ∙ ap (λ ws. Some (at (line + newlines are.1) outer before (Assign at_line ws))) (append_assoc done (a ∷ []) rest))
 
@@ -129,7 +130,7 @@ assigned line outer before ts [] are some = absurd (some refl)
 assigned line outer before ts (a ∷ rest) are some = record {
   last = Assign line (a ∷ rest);
   ran = subst (λ xs. run (at line outer before Nothing) xs ≡ Some (at (line + newlines xs) outer before (Assign line (a ∷ rest)))) (sym are.2)
-      (ap (λ o. option_and_then (λ next. run next are.1) o) (first_read line outer before are.0 a are.3) ∙ assigns_read line line outer before (a ∷ []) rest are.1 are.4);
+      (ap (λ o. option_and_then (λ next. run next are.1) o) (first_read line outer before are.0 a (assign_complete are.0 a are.3)) ∙ assigns_read line line outer before (a ∷ []) rest are.1 are.4);
   all = refl;
 }
 

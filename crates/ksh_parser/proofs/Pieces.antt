@@ -2,14 +2,15 @@
 use Rattle.std.proofs.Common.{◌≡◌, ℕ, zero, suc, ◌+◌, ◌==◌, true, false, List, [], ◌∷◌, take, drop, refl, ap, sym, ◌∙◌, arith, option_map}
 use Rattle.ksh_script.specs.declared.tree.Piece.{Piece}
 use Rattle.ksh_script.specs.declared.tree.Piece.TheVariants.{Literal}
-use Rattle.ksh_parser.specs.Words.{front, is_plain, pieces}
+use Rattle.ksh_parser.specs.Pieces.{pieces}
+use Rattle.ksh_parser.specs.Words.{front, is_plain}
 
 pub pieces_behind : (k : ℕ) (bs : List ℕ) → pieces k bs ≡ pieces 0 (drop k bs)
 pieces_behind zero bs = refl
 pieces_behind (suc k) [] = refl
 pieces_behind (suc k) (b ∷ bs) = pieces_behind k bs
 
-one_more : (n : ℕ) → 1 + n ≡ suc n
+pub one_more : (n : ℕ) → 1 + n ≡ suc n
 one_more n = omega arith
 
 -- a literal in front

@@ -16,7 +16,9 @@ use Rattle.ksh_parser.specs.declared.fault.SyntaxRefused.{SyntaxRefused}
 use Rattle.ksh_parser.specs.declared.fault.SyntaxRefused.TheVariants.{Fault}
 use Rattle.ksh_parser.specs.Fault.{Gives, not_in_profile}
 use Rattle.ksh_parser.specs.Tokens.{Token, Newline, Semicolon, Open, Doubled, Close, Run, newlines, tokens}
-use Rattle.ksh_parser.specs.Words.{word_of, assign_of}
+use Rattle.ksh_parser.specs.Pieces.{word_of, assign_of}
+use Rattle.ksh_parser.specs.Words.{IsAssign, IsWord}
+use Rattle.ksh_parser.proofs.Spelled.{assign_sound, word_sound}
 use Rattle.ksh_parser.specs.Grammar.{IsList, nothing, newline, semicolon, command, IsCommand, print, assign, subshell, AreWords, AreAssigns, IsScript, item, longest_script}
 use Rattle.ksh_parser.specs.Reading.{closed, ends, finish, is_open, item_of, run, settled, start, step, with_run as with_word}
 use Rattle.ksh_parser.proofs.Complete.{at, newlines_append, script_read}
@@ -87,11 +89,11 @@ in_semicolon depth from ts line items last is h =
     (semicolon (subst (λ p. IsList depth from ts (items ++ item_of last) p) is (as_list depth from ts line items last h)))
     (let e = h.at_line in let n = newlines_append ts (Semicolon ∷ []) in omega arith)
 
-words_more : (ts : List Token) (words : List Word) (r : List ℕ) (w : Word) → AreWords ts words → word_of r ≡ Some w → AreWords (ts ++ Run r ∷ []) (words ++ w ∷ [])
+words_more : (ts : List Token) (words : List Word) (r : List ℕ) (w : Word) → AreWords ts words → IsWord r w → AreWords (ts ++ Run r ∷ []) (words ++ w ∷ [])
 words_more ts [] r w are e = (r, [], ap (λ xs. xs ++ Run r ∷ []) are, e, refl)
 words_more ts (v ∷ words) r w are e = (are.0, are.1 ++ Run r ∷ [], ap (λ xs. xs ++ Run r ∷ []) are.2, are.3, words_more are.1 words r w are.4 e)
 
-assigns_more : (ts : List Token) (all : List assigns.Assign) (r : List ℕ) (a : assigns.Assign) → AreAssigns ts all → assign_of r ≡ Some a
+assigns_more : (ts : List Token) (all : List assigns.Assign) (r : List ℕ) (a : assigns.Assign) → AreAssigns ts all → IsAssign r a
     → AreAssigns (ts ++ Run r ∷ []) (all ++ a ∷ [])
 assigns_more ts [] r a are e = (r, [], ap (λ xs. xs ++ Run r ∷ []) are, e, refl)
 assigns_more ts (b ∷ all) r a are e = (are.0, are.1 ++ Run r ∷ [], ap (λ xs. xs ++ Run r ∷ []) are.2, are.3, assigns_more are.1 all r a are.4 e)
@@ -118,7 +120,7 @@ last_more depth line more Nothing next r is e = subst (λ ts. IsLast depth line 
         let begun : Some (Assign line (a ∷ [])) ≡ Some next = sym (ap (λ (d : Bool). if d then Some (Print line []) else option_map (λ a. Assign line (a ∷ [])) (assign_of r)) same
         ∙ ap (λ o. option_map (λ a. Assign line (a ∷ [])) o) of) ∙ e in
         let e' : Assign line (a ∷ []) ≡ next = cc in
-        subst (λ p. IsLast depth line (Run r ∷ []) p) e' (refl, some_at_end [] a, (r, [], refl, of, refl))
+        subst (λ p. IsLast depth line (Run r ∷ []) p) e' (refl, some_at_end [] a, (r, [], refl, assign_sound r a of, refl))
 last_more depth line more (Print from words) next r is e = go (word_of r) refl
   where
     go : (o : Option Word) → word_of r ≡ o → IsLast depth line (more ++ Run r ∷ []) next
@@ -127,7 +129,7 @@ last_more depth line more (Print from words) next r is e = go (word_of r) refl
         let more_is : Some (Print from (words ++ w ∷ [])) ≡ Some next = sym (ap (λ o. option_map (λ v. Print from (words ++ v ∷ [])) o) of) ∙ e in
         let e' : Print from (words ++ w ∷ []) ≡ next = cc in
         subst (λ p. IsLast depth line (more ++ Run r ∷ []) p) e'
-        (is.0, is.1 ++ Run r ∷ [], ap (λ ts. ts ++ Run r ∷ []) is.2, words_more is.1 words r w is.3 of)
+        (is.0, is.1 ++ Run r ∷ [], ap (λ ts. ts ++ Run r ∷ []) is.2, words_more is.1 words r w is.3 (word_sound r w of))
 last_more depth line more (Assign from all) next r is e = go (assign_of r) refl
   where
     go : (o : Option assigns.Assign) → assign_of r ≡ o → IsLast depth line (more ++ Run r ∷ []) next
@@ -135,7 +137,7 @@ last_more depth line more (Assign from all) next r is e = go (assign_of r) refl
     go (Some a) of =
         let more_is : Some (Assign from (all ++ a ∷ [])) ≡ Some next = sym (ap (λ o. option_map (λ b. Assign from (all ++ b ∷ [])) o) of) ∙ e in
         let e' : Assign from (all ++ a ∷ []) ≡ next = cc in
-        subst (λ p. IsLast depth line (more ++ Run r ∷ []) p) e' (is.0, some_at_end all a, assigns_more more all r a is.2 of)
+        subst (λ p. IsLast depth line (more ++ Run r ∷ []) p) e' (is.0, some_at_end all a, assigns_more more all r a is.2 (assign_sound r a of))
 last_more depth line more (Subshell from body) next r is e = cc
 
 run_behind : (depth from : ℕ) (ts : List Token) (line : ℕ) (items : List Item) (last next : Pending) (r : List ℕ) (h : InList depth from ts line items last)

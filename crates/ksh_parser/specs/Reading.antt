@@ -8,7 +8,7 @@ use Rattle.ksh_parser.specs.declared.state.Pending.{Pending}
 use Rattle.ksh_parser.specs.declared.state.Pending.TheVariants.{Nothing, Print, Assign, Subshell}
 use Rattle.ksh_parser.specs.declared.state.State.{State}
 use Rattle.ksh_parser.specs.Tokens.{Token, Newline, Semicolon, Open, Doubled, Close, Run, tokens}
-use Rattle.ksh_parser.specs.Words.{word_of, assign_of}
+use Rattle.ksh_parser.specs.Pieces.{word_of, assign_of}
 use Rattle.ksh_parser.specs.Grammar.{item}
 
 -- the command whose end is still to come, if there is one
