@@ -1,6 +1,5 @@
 -- What is of the form is read as its tree.
-use Rattle.std.proofs.Common.{◌≡◌, ◌≢◌, ℕ, zero, suc, ◌+◌, ◌<◌, ◌≤◌, Bool, true, false, nat_lt, List, [], ◌∷◌, ◌++◌, length, refl, ap, sym, ◌∙◌, subst, Option, Some, None, option_map, option_and_then, if◌then◌else◌, arith, rules, append_assoc, append-nil, add-zero, codes}
-use Rattle.std.proofs.lemmas.Grind.{common_steps}
+use Rattle.std.proofs.Common.{◌≡◌, ◌≢◌, ℕ, suc, ◌+◌, Bool, true, false, List, [], ◌∷◌, ◌++◌, length, refl, ap, sym, ◌∙◌, subst, Some, None, option_map, option_and_then, if◌then◌else◌, arith, append_assoc, append-nil, add-zero, codes}
 use Rattle.std.proofs.lemmas.Bool.{lt-ltb}
 use lib.Pointwise.{bytes_decides}
 use Rattle.ksh_base.specs.Text.{same_numbers}
@@ -13,11 +12,12 @@ use Rattle.ksh_parser.specs.declared.frames.Frame.{Frame}
 use Rattle.ksh_parser.specs.declared.state.Pending.{Pending}
 use Rattle.ksh_parser.specs.declared.state.Pending.TheVariants.{Nothing, Print, Assign, Subshell}
 use Rattle.ksh_parser.specs.declared.state.State.{State}
-use Rattle.ksh_parser.specs.Tokens.{Token, Newline, Semicolon, Open, Doubled, Close, Run, newlines, tokens}
-use Rattle.ksh_parser.specs.Words.{word_of, assign_of}
+use Rattle.ksh_parser.specs.Tokens.{Token, Newline, Semicolon, Open, Doubled, Close, Run, newlines}
+use Rattle.ksh_parser.specs.Pieces.{word_of, assign_of}
 use Rattle.ksh_parser.specs.Grammar.{IsList, nothing, newline, semicolon, command, IsCommand, print, assign, subshell, AreWords, AreAssigns, IsScript, item}
-use Rattle.ksh_parser.specs.Reading.{closed, ends, finish, is_open, item_of, opened, run, settled, start, step, with_run as with_word}
+use Rattle.ksh_parser.specs.Reading.{closed, ends, finish, is_open, item_of, run, start, step}
 use Rattle.ksh_parser.proofs.Ends.{run_append}
+use Rattle.ksh_parser.proofs.Spelled.{assign_complete, word_complete}
 
 abbrev pub at : ℕ → List Frame → List Item → Pending → State
 at line outer items last = record { line = line; outer = outer; items = items; pending = last }
@@ -50,26 +50,26 @@ words_read : (line at_line : ℕ) (outer : List Frame) (before : List Item) (don
     → run (at line outer before (Print at_line done)) ts ≡ Some (at (line + newlines ts) outer before (Print at_line (done ++ words)))
 words_read line at_line outer before done [] ts are =
     subst (λ xs. run (at line outer before (Print at_line done)) xs ≡ Some (at (line + newlines xs) outer before (Print at_line (done ++ [])))) (sym are)
-      (ap (λ n. Some (at n outer before (Print at_line done))) (sym (add-zero line))
-        ∙ ap (λ ws. Some (at (line + 0) outer before (Print at_line ws))) (sym (append-nil done)))
+    (ap (λ n. Some (at n outer before (Print at_line done))) (sym (add-zero line))
+    ∙ ap (λ ws. Some (at (line + 0) outer before (Print at_line ws))) (sym (append-nil done)))
 words_read line at_line outer before done (w ∷ words) ts are =
     subst (λ xs. run (at line outer before (Print at_line done)) xs ≡ Some (at (line + newlines xs) outer before (Print at_line (done ++ w ∷ words)))) (sym are.2)
-      (ap (λ o. option_and_then (λ next. run next are.1) (option_map (λ p. at line outer before p) (option_map (λ v. Print at_line (done ++ v ∷ [])) o))) are.3
-        ∙ words_read line at_line outer before (done ++ w ∷ []) words are.1 are.4
-        ∙ ap (λ ws. Some (at (line + newlines are.1) outer before (Print at_line ws))) (append_assoc done (w ∷ []) words))
+    (ap (λ o. option_and_then (λ next. run next are.1) (option_map (λ p. at line outer before p) (option_map (λ v. Print at_line (done ++ v ∷ [])) o))) (word_complete are.0 w are.3)
+    ∙ words_read line at_line outer before (done ++ w ∷ []) words are.1 are.4
+    ∙ ap (λ ws. Some (at (line + newlines are.1) outer before (Print at_line ws))) (append_assoc done (w ∷ []) words))
 
 -- assignments, one by one, behind an assignment
 assigns_read : (line at_line : ℕ) (outer : List Frame) (before : List Item) (done rest : List assigns.Assign) (ts : List Token) → AreAssigns ts rest
     → run (at line outer before (Assign at_line done)) ts ≡ Some (at (line + newlines ts) outer before (Assign at_line (done ++ rest)))
 assigns_read line at_line outer before done [] ts are =
     subst (λ xs. run (at line outer before (Assign at_line done)) xs ≡ Some (at (line + newlines xs) outer before (Assign at_line (done ++ [])))) (sym are)
-      (ap (λ n. Some (at n outer before (Assign at_line done))) (sym (add-zero line))
-        ∙ ap (λ ws. Some (at (line + 0) outer before (Assign at_line ws))) (sym (append-nil done)))
+    (ap (λ n. Some (at n outer before (Assign at_line done))) (sym (add-zero line))
+    ∙ ap (λ ws. Some (at (line + 0) outer before (Assign at_line ws))) (sym (append-nil done)))
 assigns_read line at_line outer before done (a ∷ rest) ts are =
     subst (λ xs. run (at line outer before (Assign at_line done)) xs ≡ Some (at (line + newlines xs) outer before (Assign at_line (done ++ a ∷ rest)))) (sym are.2)
-      (ap (λ o. option_and_then (λ next. run next are.1) (option_map (λ p. at line outer before p) (option_map (λ v. Assign at_line (done ++ v ∷ [])) o))) are.3
-        ∙ assigns_read line at_line outer before (done ++ a ∷ []) rest are.1 are.4
-        ∙ ap (λ ws. Some (at (line + newlines are.1) outer before (Assign at_line ws))) (append_assoc done (a ∷ []) rest))
+    (ap (λ o. option_and_then (λ next. run next are.1) (option_map (λ p. at line outer before p) (option_map (λ v. Assign at_line (done ++ v ∷ [])) o))) (assign_complete are.0 a are.3)
+    ∙ assigns_read line at_line outer before (done ++ a ∷ []) rest are.1 are.4
+    ∙ ap (λ ws. Some (at (line + newlines are.1) outer before (Assign at_line ws))) (append_assoc done (a ∷ []) rest))
 
 -- the word `print` is no assignment
 no_assign : (run : List ℕ) (a : assigns.Assign) → assign_of run ≡ Some a → same_numbers run (codes "print") ≡ false
@@ -111,7 +111,7 @@ settled_read : (line : ℕ) (outer : List Frame) (ts : List Token) (items : List
 settled_read line outer ts items h =
     let none = not_open h.last h.same in
     ap (λ p. Some (at (line + newlines ts) outer h.before p)) none
-        ∙ ap (λ xs. Some (at (line + newlines ts) outer xs Nothing)) (sym (append-nil h.before) ∙ ap (λ p. h.before ++ item_of p) (sym none) ∙ h.all)
+    ∙ ap (λ xs. Some (at (line + newlines ts) outer xs Nothing)) (sym (append-nil h.before) ∙ ap (λ p. h.before ++ item_of p) (sym none) ∙ h.all)
 
 one_is_open : (last : Pending) (i : Item) → item_of last ≡ i ∷ [] → is_open last ≡ true
 one_is_open Nothing i e = cc
@@ -130,7 +130,7 @@ assigned line outer before ts [] are some = absurd (some refl)
 assigned line outer before ts (a ∷ rest) are some = record {
   last = Assign line (a ∷ rest);
   ran = subst (λ xs. run (at line outer before Nothing) xs ≡ Some (at (line + newlines xs) outer before (Assign line (a ∷ rest)))) (sym are.2)
-      (ap (λ o. option_and_then (λ next. run next are.1) o) (first_read line outer before are.0 a are.3) ∙ assigns_read line line outer before (a ∷ []) rest are.1 are.4);
+      (ap (λ o. option_and_then (λ next. run next are.1) o) (first_read line outer before are.0 a (assign_complete are.0 a are.3)) ∙ assigns_read line line outer before (a ∷ []) rest are.1 are.4);
   all = refl;
 }
 

@@ -1,6 +1,5 @@
 -- What comes of a text, token by token.
-use Rattle.std.proofs.Common.{◌≡◌, ℕ, List, [], ◌∷◌, ◌++◌, ap, subst, ◌∙◌, refl, Option, Some, None, option_and_then, Result, Err}
-use Rattle.ksh_script.specs.declared.tree.Item.{Item}
+use Rattle.std.proofs.Common.{◌≡◌, ℕ, List, [], ◌∷◌, ◌++◌, ap, subst, ◌∙◌, refl, Some, None, option_and_then, Result, Err}
 use Rattle.ksh_parser.specs.declared.state.State.{State}
 use Rattle.ksh_parser.specs.declared.fault.SyntaxFault.{SyntaxFault}
 use Rattle.ksh_parser.specs.declared.fault.SyntaxRefused.{SyntaxRefused}
@@ -21,7 +20,7 @@ pub run_append : (s : State) (xs ys : List Token) → run s (xs ++ ys) ≡ optio
 run_append s [] ys = refl
 run_append s (x ∷ xs) ys =
     elim (step s x) as (λ o. option_and_then (λ next. run next (xs ++ ys)) o ≡ option_and_then (λ next. run next ys) (option_and_then (λ next. run next xs) o))
-        [ None ↦ refl | Some next ↦ run_append next xs ys ]
+    [ None ↦ refl | Some next ↦ run_append next xs ys ]
 
 -- a token that is refused
 pub refused_by : (s : State) (bytes behind : List ℕ) (t : Token) (r : Result State SyntaxRefused) (f : SyntaxFault) → tokens bytes ≡ t ∷ tokens behind

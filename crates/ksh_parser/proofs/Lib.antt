@@ -3,3 +3,4 @@ pub mod Ends
 pub mod Pieces
 pub mod Runs
 pub mod Sound
+pub mod Spelled

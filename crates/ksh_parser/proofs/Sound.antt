@@ -1,5 +1,5 @@
 -- What is read is of the form.
-use Rattle.std.proofs.Common.{◌≡◌, ◌≢◌, ℕ, zero, suc, ◌+◌, ◌<◌, ◌≤◌, Bool, true, false, nat_lt, List, [], ◌∷◌, ◌++◌, length, refl, ap, sym, ◌∙◌, subst, Option, Some, None, option_map, option_and_then, Result, Err, if◌then◌else◌, arith, append_assoc, append-nil, add-zero, codes}
+use Rattle.std.proofs.Common.{◌≡◌, ◌≢◌, ℕ, zero, suc, ◌+◌, ◌≤◌, Bool, true, false, nat_lt, List, [], ◌∷◌, ◌++◌, length, refl, ap, sym, ◌∙◌, subst, Option, Some, None, option_map, option_and_then, Result, Err, if◌then◌else◌, arith, append_assoc, append-nil, add-zero, codes}
 use Rattle.std.proofs.lemmas.Bool.{ltb-true}
 use lib.Pointwise.{bytes_decides}
 use Rattle.ksh_base.specs.Text.{same_numbers}
@@ -16,9 +16,11 @@ use Rattle.ksh_parser.specs.declared.fault.SyntaxRefused.{SyntaxRefused}
 use Rattle.ksh_parser.specs.declared.fault.SyntaxRefused.TheVariants.{Fault}
 use Rattle.ksh_parser.specs.Fault.{Gives, not_in_profile}
 use Rattle.ksh_parser.specs.Tokens.{Token, Newline, Semicolon, Open, Doubled, Close, Run, newlines, tokens}
-use Rattle.ksh_parser.specs.Words.{word_of, assign_of}
+use Rattle.ksh_parser.specs.Pieces.{word_of, assign_of}
+use Rattle.ksh_parser.specs.Words.{IsAssign, IsWord}
+use Rattle.ksh_parser.proofs.Spelled.{assign_sound, word_sound}
 use Rattle.ksh_parser.specs.Grammar.{IsList, nothing, newline, semicolon, command, IsCommand, print, assign, subshell, AreWords, AreAssigns, IsScript, item, longest_script}
-use Rattle.ksh_parser.specs.Reading.{closed, ends, finish, is_open, item_of, opened, run, settled, start, step, with_run as with_word}
+use Rattle.ksh_parser.specs.Reading.{closed, ends, finish, is_open, item_of, run, settled, start, step, with_run as with_word}
 use Rattle.ksh_parser.proofs.Complete.{at, newlines_append, script_read}
 
 -- the tokens of the last command, as far as it goes, and its line
@@ -51,16 +53,16 @@ as_list depth from ts line items Nothing h =
     subst (λ xs. IsList depth from ts xs false) (sym (append-nil items)) (subst (λ xs. IsList depth from xs items false) (sym e) h.list)
 as_list depth from ts line items (Print at_line words) h =
     let c : IsCommand depth (from + newlines h.before) h.more (tree.Print words) =
-        subst (λ xs. IsCommand depth (from + newlines h.before) xs (tree.Print words)) (sym h.ends_with.2) (print h.ends_with.3) in
+    subst (λ xs. IsCommand depth (from + newlines h.before) xs (tree.Print words)) (sym h.ends_with.2) (print h.ends_with.3) in
     subst (λ xs. IsList depth from xs (items ++ item at_line (tree.Print words) ∷ []) true) (sym h.whole)
-      (subst (λ n. IsList depth from (h.before ++ h.more) (items ++ item n (tree.Print words) ∷ []) true) (sym h.ends_with.0) (command h.list c))
+    (subst (λ n. IsList depth from (h.before ++ h.more) (items ++ item n (tree.Print words) ∷ []) true) (sym h.ends_with.0) (command h.list c))
 as_list depth from ts line items (Assign at_line all) h =
     let c : IsCommand depth (from + newlines h.before) h.more (tree.Assign all) = assign h.ends_with.2 h.ends_with.1 in
     subst (λ xs. IsList depth from xs (items ++ item at_line (tree.Assign all) ∷ []) true) (sym h.whole)
-      (subst (λ n. IsList depth from (h.before ++ h.more) (items ++ item n (tree.Assign all) ∷ []) true) (sym h.ends_with.0) (command h.list c))
+    (subst (λ n. IsList depth from (h.before ++ h.more) (items ++ item n (tree.Assign all) ∷ []) true) (sym h.ends_with.0) (command h.list c))
 as_list depth from ts line items (Subshell at_line body) h =
     subst (λ xs. IsList depth from xs (items ++ item at_line (tree.Subshell body) ∷ []) true) (sym h.whole)
-      (subst (λ n. IsList depth from (h.before ++ h.more) (items ++ item n (tree.Subshell body) ∷ []) true) (sym h.ends_with.0) (command h.list h.ends_with.1))
+    (subst (λ n. IsList depth from (h.before ++ h.more) (items ++ item n (tree.Subshell body) ∷ []) true) (sym h.ends_with.0) (command h.list h.ends_with.1))
 
 -- a list that has no last command
 settled_list : (depth from : ℕ) (ts : List Token) (line : ℕ) (items : List Item) → IsList depth from ts items false → line ≡ from + newlines ts
@@ -78,20 +80,20 @@ in_newline : (depth from : ℕ) (ts : List Token) (line : ℕ) (items : List Ite
     → InList depth from (ts ++ Newline ∷ []) (line + 1) (items ++ item_of last) Nothing
 in_newline depth from ts line items last h =
     settled_list depth from (ts ++ Newline ∷ []) (line + 1) (items ++ item_of last) (newline (as_list depth from ts line items last h))
-      (let e = h.at_line in let n = newlines_append ts (Newline ∷ []) in omega arith)
+    (let e = h.at_line in let n = newlines_append ts (Newline ∷ []) in omega arith)
 
 in_semicolon : (depth from : ℕ) (ts : List Token) (line : ℕ) (items : List Item) (last : Pending) → is_open last ≡ true → InList depth from ts line items last
     → InList depth from (ts ++ Semicolon ∷ []) line (items ++ item_of last) Nothing
 in_semicolon depth from ts line items last is h =
     settled_list depth from (ts ++ Semicolon ∷ []) line (items ++ item_of last)
-      (semicolon (subst (λ p. IsList depth from ts (items ++ item_of last) p) is (as_list depth from ts line items last h)))
-      (let e = h.at_line in let n = newlines_append ts (Semicolon ∷ []) in omega arith)
+    (semicolon (subst (λ p. IsList depth from ts (items ++ item_of last) p) is (as_list depth from ts line items last h)))
+    (let e = h.at_line in let n = newlines_append ts (Semicolon ∷ []) in omega arith)
 
-words_more : (ts : List Token) (words : List Word) (r : List ℕ) (w : Word) → AreWords ts words → word_of r ≡ Some w → AreWords (ts ++ Run r ∷ []) (words ++ w ∷ [])
+words_more : (ts : List Token) (words : List Word) (r : List ℕ) (w : Word) → AreWords ts words → IsWord r w → AreWords (ts ++ Run r ∷ []) (words ++ w ∷ [])
 words_more ts [] r w are e = (r, [], ap (λ xs. xs ++ Run r ∷ []) are, e, refl)
 words_more ts (v ∷ words) r w are e = (are.0, are.1 ++ Run r ∷ [], ap (λ xs. xs ++ Run r ∷ []) are.2, are.3, words_more are.1 words r w are.4 e)
 
-assigns_more : (ts : List Token) (all : List assigns.Assign) (r : List ℕ) (a : assigns.Assign) → AreAssigns ts all → assign_of r ≡ Some a
+assigns_more : (ts : List Token) (all : List assigns.Assign) (r : List ℕ) (a : assigns.Assign) → AreAssigns ts all → IsAssign r a
     → AreAssigns (ts ++ Run r ∷ []) (all ++ a ∷ [])
 assigns_more ts [] r a are e = (r, [], ap (λ xs. xs ++ Run r ∷ []) are, e, refl)
 assigns_more ts (b ∷ all) r a are e = (are.0, are.1 ++ Run r ∷ [], ap (λ xs. xs ++ Run r ∷ []) are.2, are.3, assigns_more are.1 all r a are.4 e)
@@ -112,13 +114,13 @@ last_more depth line more Nothing next r is e = subst (λ ts. IsLast depth line 
         subst (λ p. IsLast depth line (Run r ∷ []) p) e' (refl, [], ap (λ bs. Run bs ∷ []) ((bytes_decides r (codes "print")).0 same), refl)
     first false same None of =
         let none : None ≡ Some next = sym (ap (λ (d : Bool). if d then Some (Print line []) else option_map (λ a. Assign line (a ∷ [])) (assign_of r)) same
-            ∙ ap (λ o. option_map (λ a. Assign line (a ∷ [])) o) of) ∙ e in
+        ∙ ap (λ o. option_map (λ a. Assign line (a ∷ [])) o) of) ∙ e in
         cc
     first false same (Some a) of =
         let begun : Some (Assign line (a ∷ [])) ≡ Some next = sym (ap (λ (d : Bool). if d then Some (Print line []) else option_map (λ a. Assign line (a ∷ [])) (assign_of r)) same
-            ∙ ap (λ o. option_map (λ a. Assign line (a ∷ [])) o) of) ∙ e in
+        ∙ ap (λ o. option_map (λ a. Assign line (a ∷ [])) o) of) ∙ e in
         let e' : Assign line (a ∷ []) ≡ next = cc in
-        subst (λ p. IsLast depth line (Run r ∷ []) p) e' (refl, some_at_end [] a, (r, [], refl, of, refl))
+        subst (λ p. IsLast depth line (Run r ∷ []) p) e' (refl, some_at_end [] a, (r, [], refl, assign_sound r a of, refl))
 last_more depth line more (Print from words) next r is e = go (word_of r) refl
   where
     go : (o : Option Word) → word_of r ≡ o → IsLast depth line (more ++ Run r ∷ []) next
@@ -127,7 +129,7 @@ last_more depth line more (Print from words) next r is e = go (word_of r) refl
         let more_is : Some (Print from (words ++ w ∷ [])) ≡ Some next = sym (ap (λ o. option_map (λ v. Print from (words ++ v ∷ [])) o) of) ∙ e in
         let e' : Print from (words ++ w ∷ []) ≡ next = cc in
         subst (λ p. IsLast depth line (more ++ Run r ∷ []) p) e'
-            (is.0, is.1 ++ Run r ∷ [], ap (λ ts. ts ++ Run r ∷ []) is.2, words_more is.1 words r w is.3 of)
+        (is.0, is.1 ++ Run r ∷ [], ap (λ ts. ts ++ Run r ∷ []) is.2, words_more is.1 words r w is.3 (word_sound r w of))
 last_more depth line more (Assign from all) next r is e = go (assign_of r) refl
   where
     go : (o : Option assigns.Assign) → assign_of r ≡ o → IsLast depth line (more ++ Run r ∷ []) next
@@ -135,7 +137,7 @@ last_more depth line more (Assign from all) next r is e = go (assign_of r) refl
     go (Some a) of =
         let more_is : Some (Assign from (all ++ a ∷ [])) ≡ Some next = sym (ap (λ o. option_map (λ b. Assign from (all ++ b ∷ [])) o) of) ∙ e in
         let e' : Assign from (all ++ a ∷ []) ≡ next = cc in
-        subst (λ p. IsLast depth line (more ++ Run r ∷ []) p) e' (is.0, some_at_end all a, assigns_more more all r a is.2 of)
+        subst (λ p. IsLast depth line (more ++ Run r ∷ []) p) e' (is.0, some_at_end all a, assigns_more more all r a is.2 (assign_sound r a of))
 last_more depth line more (Subshell from body) next r is e = cc
 
 run_behind : (depth from : ℕ) (ts : List Token) (line : ℕ) (items : List Item) (last next : Pending) (r : List ℕ) (h : InList depth from ts line items last)
@@ -157,7 +159,7 @@ in_run : (depth from : ℕ) (ts : List Token) (line : ℕ) (items : List Item) (
     → InList depth from ts line items last → InList depth from (ts ++ Run r ∷ []) line items next
 in_run depth from ts line items Nothing next r e h =
     run_behind depth from ts line items Nothing next r h
-      (subst (λ k. with_word k Nothing r ≡ Some next) (h.at_line ∙ ap (λ xs. from + newlines xs) (all_before depth from ts line items h)) e)
+    (subst (λ k. with_word k Nothing r ≡ Some next) (h.at_line ∙ ap (λ xs. from + newlines xs) (all_before depth from ts line items h)) e)
 in_run depth from ts line items (Print at_line words) next r e h = run_behind depth from ts line items (Print at_line words) next r h e
 in_run depth from ts line items (Assign at_line all) next r e h = run_behind depth from ts line items (Assign at_line all) next r h e
 in_run depth from ts line items (Subshell at_line body) next r e h = run_behind depth from ts line items (Subshell at_line body) next r h e
@@ -180,10 +182,11 @@ held_closed : (f : Frame) (outer : List Frame) (depth line : ℕ) (items : List 
     → Held outer (suc depth) line f.items (Subshell f.line body) (ts ++ Close ∷ [])
 held_closed f outer depth line items last ts body is some h =
     subst (λ xs. Held outer (suc depth) line f.items (Subshell f.line body) xs) (sym (ap (λ ys. ys ++ Close ∷ []) h.2 ∙ append_assoc h.0 (Open ∷ h.1) (Close ∷ [])))
-      (held_inside outer (suc depth) f.line f.items Nothing h.0 (Open ∷ (h.1 ++ Close ∷ [])) line f.items (Subshell f.line body) goes h.3)
+    (held_inside outer (suc depth) f.line f.items Nothing h.0 (Open ∷ (h.1 ++ Close ∷ [])) line f.items (Subshell f.line body) goes h.3)
   where
     inner : IsList depth f.line h.1 body (is_open last)
     inner = subst (λ xs. IsList depth f.line h.1 xs (is_open last)) is (as_list depth f.line h.1 line items last h.4)
+
     goes : (from : ℕ) (inside : List Token) → InList (suc depth) from inside f.line f.items Nothing
         → InList (suc depth) from (inside ++ (Open ∷ (h.1 ++ Close ∷ []))) line f.items (Subshell f.line body)
     goes from inside k =
@@ -229,7 +232,7 @@ open_step outer depth line items Nothing ts next h e = go (nat_lt (length outer)
     go true is zero held = let full = held_depth outer zero line items Nothing ts held in let room = ltb-true (length outer) 64 is in absurd (omega arith)
     go true is (suc d) held =
         let done : Some (at line (record { line = line; items = items } ∷ outer) [] Nothing) ≡ Some next =
-            sym (ap (λ (c : Bool). if c then Some (at line (record { line = line; items = items } ∷ outer) [] Nothing) else None) is) ∙ e in
+        sym (ap (λ (c : Bool). if c then Some (at line (record { line = line; items = items } ∷ outer) [] Nothing) else None) is) ∙ e in
         let same : at line (record { line = line; items = items } ∷ outer) [] Nothing ≡ next = cc in
         subst (λ q. HeldAt q (ts ++ Open ∷ [])) same (d, (ts, [], refl, held, settled_list d line [] line [] nothing (sym (add-zero line))))
 
@@ -241,11 +244,13 @@ semicolon_step outer depth line items last ts next h e = go (is_open last) refl
     go false is = let none : None ≡ Some next = sym (ap (λ (c : Bool). if c then Some (at line outer (items ++ item_of last) Nothing) else None) is) ∙ e in cc
     go true is =
         let done : Some (at line outer (items ++ item_of last) Nothing) ≡ Some next =
-            sym (ap (λ (c : Bool). if c then Some (at line outer (items ++ item_of last) Nothing) else None) is) ∙ e in
+        sym (ap (λ (c : Bool). if c then Some (at line outer (items ++ item_of last) Nothing) else None) is) ∙ e in
         let same : at line outer (items ++ item_of last) Nothing ≡ next = cc in
-        subst (λ q. HeldAt q (ts ++ Semicolon ∷ [])) same
-          (depth, held_inside outer depth line items last ts (Semicolon ∷ []) line (items ++ item_of last) Nothing
-            (λ from inside k. in_semicolon depth from inside line items last is k) h)
+        subst (λ q. HeldAt q (ts ++ Semicolon ∷ [])) same (
+          depth,
+          held_inside outer depth line items last ts (Semicolon ∷ []) line (items ++ item_of last) Nothing
+              (λ from inside k. in_semicolon depth from inside line items last is k) h,
+        )
 
 run_step : (outer : List Frame) (depth line : ℕ) (items : List Item) (last : Pending) (ts : List Token) (next : State) (r : List ℕ) → Held outer depth line items last ts
     → option_map (λ p. at line outer items p) (with_word line last r) ≡ Some next → HeldAt next (ts ++ Run r ∷ [])
@@ -257,14 +262,16 @@ run_step outer depth line items last ts next r h e = go (with_word line last r) 
         let done : Some (at line outer items p) ≡ Some next = sym (ap (λ o. option_map (λ q. at line outer items q) o) is) ∙ e in
         let same : at line outer items p ≡ next = cc in
         subst (λ q. HeldAt q (ts ++ Run r ∷ [])) same
-          (depth, held_inside outer depth line items last ts (Run r ∷ []) line items p (λ from inside k. in_run depth from inside line items last p r is k) h)
+        (depth, held_inside outer depth line items last ts (Run r ∷ []) line items p (λ from inside k. in_run depth from inside line items last p r is k) h)
 
 held_step : (s next : State) (t : Token) (ts : List Token) → HeldAt s ts → step s t ≡ Some next → HeldAt next (ts ++ t ∷ [])
 held_step s next Newline ts h e =
     let same : at (s.line + 1) s.outer (s.items ++ item_of s.pending) Nothing ≡ next = cc in
-    subst (λ q. HeldAt q (ts ++ Newline ∷ [])) same
-      (h.0, held_inside s.outer h.0 s.line s.items s.pending ts (Newline ∷ []) (s.line + 1) (s.items ++ item_of s.pending) Nothing
-        (λ from inside k. in_newline h.0 from inside s.line s.items s.pending k) h.1)
+    subst (λ q. HeldAt q (ts ++ Newline ∷ [])) same (
+      h.0,
+      held_inside s.outer h.0 s.line s.items s.pending ts (Newline ∷ []) (s.line + 1) (s.items ++ item_of s.pending) Nothing
+          (λ from inside k. in_newline h.0 from inside s.line s.items s.pending k) h.1,
+    )
 held_step s next Semicolon ts h e = semicolon_step s.outer h.0 s.line s.items s.pending ts next h.1 e
 held_step s next Open ts h e = open_step s.outer h.0 s.line s.items s.pending ts next h.1 e
 held_step s next Doubled ts h e = cc
@@ -282,7 +289,7 @@ held_run (t ∷ ts) s last done h e = go (step s t) refl (λ next taken rest. he
     go None is rest = let none : None ≡ Some last = sym (ap (λ o. option_and_then (λ n. run n ts) o) is) ∙ e in cc
     go (Some next) is rest =
         subst (λ xs. HeldAt last xs) (append_assoc done (t ∷ []) ts)
-          (rest next (held_step s next t done h is) (sym (ap (λ o. option_and_then (λ n. run n ts) o) is) ∙ e))
+        (rest next (held_step s next t done h is) (sym (ap (λ o. option_and_then (λ n. run n ts) o) is) ∙ e))
 
 -- no parenthesis is open
 finished : (s : State) (ts : List Token) (items : List Item) → HeldAt s ts → finish s ≡ Some items → (pending : Bool) × IsList 64 1 ts items pending
@@ -291,13 +298,15 @@ finished s ts items h e = go s.outer refl h.1
     go : (outer : List Frame) → s.outer ≡ outer → Held outer h.0 s.line s.items s.pending ts → (pending : Bool) × IsList 64 1 ts items pending
     go [] is held =
         let all : Some (s.items ++ item_of s.pending) ≡ Some items =
-            sym (ap (λ (o : List Frame). elim o as (λ _. Option (List Item)) [ [] ↦ Some (settled s).items | f ∷ outer ↦ None ]) is) ∙ e in
-        let same : s.items ++ item_of s.pending ≡ items = cc in
-        (is_open s.pending, subst (λ d. IsList d 1 ts items (is_open s.pending)) held.0
-          (subst (λ xs. IsList h.0 1 ts xs (is_open s.pending)) same (as_list h.0 1 ts s.line s.items s.pending held.1)))
+        sym (ap (λ (o : List Frame). elim o as (λ _. Option (List Item)) [ [] ↦ Some (settled s).items | f ∷ outer ↦ None ]) is) ∙ e in
+        let same : s.items ++ item_of s.pending ≡ items = cc in (
+          is_open s.pending,
+          subst (λ d. IsList d 1 ts items (is_open s.pending)) held.0
+              (subst (λ xs. IsList h.0 1 ts xs (is_open s.pending)) same (as_list h.0 1 ts s.line s.items s.pending held.1)),
+        )
     go (f ∷ outer) is held =
         let none : None ≡ Some items =
-            sym (ap (λ (o : List Frame). elim o as (λ _. Option (List Item)) [ [] ↦ Some (settled s).items | f ∷ outer ↦ None ]) is) ∙ e in
+        sym (ap (λ (o : List Frame). elim o as (λ _. Option (List Item)) [ [] ↦ Some (settled s).items | f ∷ outer ↦ None ]) is) ∙ e in
         cc
 
 script_form : (text : List ℕ) (items : List Item) → ends start text ≡ Some items → (pending : Bool) × IsList 64 1 (tokens text) items pending

@@ -1,6 +1,5 @@
 -- The faults of a text, and what a function answers where a definition gives something or nothing.
 use Rattle.std.specs.Prelude.{◌≡◌, ℕ, List, Option, Some, None, Result, Ok, Err, codes}
-use Rattle.ksh_base.specs.declared.place.Place.{Place}
 use Rattle.ksh_parser.specs.declared.fault.SyntaxKind.{SyntaxKind}
 use Rattle.ksh_parser.specs.declared.fault.SyntaxKind.TheVariants.{UnexpectedToken, UnexpectedEnd, UnclosedQuote, UnclosedSubstitution, HereDocMissing, BadName, BadArithmetic, TooDeep, TooLong, NotInProfile}
 use Rattle.ksh_parser.specs.declared.fault.SyntaxFault.{SyntaxFault}

@@ -6,17 +6,17 @@ use Rattle.ksh_script.specs.declared.tree.Command.TheVariants.{Print, Assign, Su
 use Rattle.ksh_script.specs.declared.tree.Word.{Word}
 use Rattle.ksh_script.specs.declared.tree.Assign as tree
 use Rattle.ksh_parser.specs.Tokens.{Token, Newline, Semicolon, Open, Close, Run, tokens, newlines}
-use Rattle.ksh_parser.specs.Words.{word_of, assign_of}
+use Rattle.ksh_parser.specs.Words.{IsWord, IsAssign}
 
 -- runs that are words, one by one
 abbrev pub AreWords : List Token → List Word → Type 0
 AreWords ts [] = ts ≡ []
-AreWords ts (w ∷ words) = (run : List ℕ) × (rest : List Token) × (ts ≡ Run run ∷ rest) × (word_of run ≡ Some w) × AreWords rest words
+AreWords ts (w ∷ words) = (run : List ℕ) × (rest : List Token) × (ts ≡ Run run ∷ rest) × IsWord run w × AreWords rest words
 
 -- runs that are assignments, one by one
 abbrev pub AreAssigns : List Token → List tree.Assign → Type 0
 AreAssigns ts [] = ts ≡ []
-AreAssigns ts (a ∷ assigns) = (run : List ℕ) × (rest : List Token) × (ts ≡ Run run ∷ rest) × (assign_of run ≡ Some a) × AreAssigns rest assigns
+AreAssigns ts (a ∷ assigns) = (run : List ℕ) × (rest : List Token) × (ts ≡ Run run ∷ rest) × IsAssign run a × AreAssigns rest assigns
 
 abbrev pub item : ℕ → Command → Item
 item line command = record { line = line; command = command }

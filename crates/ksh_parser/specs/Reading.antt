@@ -1,5 +1,5 @@
 -- How tokens are read, one by one, with the lists that are open.
-use Rattle.std.specs.Prelude.{◌≡◌, ℕ, ◌+◌, ◌&&◌, Bool, true, false, nat_lt, List, [], ◌∷◌, ◌++◌, length, Option, Some, None, option_map, option_and_then, if◌then◌else◌, codes}
+use Rattle.std.specs.Prelude.{ℕ, ◌+◌, Bool, true, false, nat_lt, List, [], ◌∷◌, ◌++◌, length, Option, Some, None, option_map, option_and_then, if◌then◌else◌, codes}
 use Rattle.ksh_base.specs.Text.{same_numbers}
 use Rattle.ksh_script.specs.declared.tree.Item.{Item}
 use Rattle.ksh_script.specs.declared.tree.Command.TheVariants as tree
@@ -8,7 +8,7 @@ use Rattle.ksh_parser.specs.declared.state.Pending.{Pending}
 use Rattle.ksh_parser.specs.declared.state.Pending.TheVariants.{Nothing, Print, Assign, Subshell}
 use Rattle.ksh_parser.specs.declared.state.State.{State}
 use Rattle.ksh_parser.specs.Tokens.{Token, Newline, Semicolon, Open, Doubled, Close, Run, tokens}
-use Rattle.ksh_parser.specs.Words.{word_of, assign_of}
+use Rattle.ksh_parser.specs.Pieces.{word_of, assign_of}
 use Rattle.ksh_parser.specs.Grammar.{item}
 
 -- the command whose end is still to come, if there is one

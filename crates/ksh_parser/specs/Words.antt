@@ -1,7 +1,6 @@
 -- What a run of bytes is: a word, or an assignment.
-use Rattle.std.specs.Prelude.{◌≡◌, ℕ, zero, suc, ◌+◌, ◌==◌, Bool, true, false, not, ◌||◌, ◌&&◌, List, [], ◌∷◌, take, drop, Option, Some, None, option_map, if◌then◌else◌, codes}
+use Rattle.std.specs.Prelude.{◌≡◌, ◌≢◌, ℕ, suc, ◌==◌, Bool, true, false, ◌||◌, List, [], ◌∷◌, ◌++◌, length, if◌then◌else◌, codes}
 use Rattle.ksh_base.specs.Name.{starts_name, goes_on_in_name}
-use Rattle.ksh_base.specs.Text.{same_numbers}
 use Rattle.ksh_script.specs.declared.tree.Piece.{Piece}
 use Rattle.ksh_script.specs.declared.tree.Piece.TheVariants.{Literal, Value}
 use Rattle.ksh_script.specs.declared.tree.Word.{Word}
@@ -14,37 +13,34 @@ is_plain b = goes_on_in_name b || ((b == 46 || (b == 47 || b == 44)) || (b == 58
 -- how many bytes of a kind stand in front
 abbrev pub front : (ℕ → Bool) → List ℕ → ℕ
 front p [] = 0
-front p (b ∷ bs) = if p b then front p bs + 1 else 0
+front p (b ∷ bs) = if p b then suc (front p bs) else 0
 
 abbrev pub starts_with : (ℕ → Bool) → List ℕ → Bool
 starts_with p [] = false
 starts_with p (b ∷ bs) = p b
 
--- the pieces of bytes, but for the first k, which a piece before has taken: a `$` and the longest
--- name behind it, or as many plain bytes as stand together
-abbrev pub pieces : ℕ → List ℕ → Option (List Piece)
-pieces k [] = Some []
-pieces (suc k) (b ∷ bs) = pieces k bs
-pieces zero (b ∷ bs) =
-    if b == 36
-    then (if starts_with starts_name bs
-        then option_map (λ ps. Value (take (front goes_on_in_name bs) bs) ∷ ps) (pieces (front goes_on_in_name bs) bs)
-        else None)
-    else (if is_plain b
-        then option_map (λ ps. Literal (b ∷ take (front is_plain bs) bs) ∷ ps) (pieces (front is_plain bs) bs)
-        else None)
+-- the bytes with which pieces are written
+abbrev pub spelled : List Piece → List ℕ
+spelled [] = []
+spelled (Literal text ∷ ps) = text ++ spelled ps
+spelled (Value name ∷ ps) = 36 ∷ (name ++ spelled ps)
 
-abbrev pub word_of : List ℕ → Option Word
-word_of run = option_map (λ ps. record { pieces = ps }) (pieces 0 run)
+-- each literal is all the plain bytes that stand there, and each name the longest that stands there
+abbrev pub AreLongest : List Piece → Type 0
+AreLongest [] = Unit {0}
+AreLongest (Literal text ∷ ps) = (text ≢ []) × (front is_plain (text ++ spelled ps) ≡ length text) × AreLongest ps
+AreLongest (Value name ∷ ps) = (starts_with starts_name name ≡ true) × (front goes_on_in_name (name ++ spelled ps) ≡ length name) × AreLongest ps
 
--- what stands behind a name: `=` and the value's bytes
-abbrev pub value_behind : List ℕ → List ℕ → Option Assign
-value_behind name [] = None
-value_behind name (b ∷ bs) = if b == 61 then option_map (λ w. record { name = name; value = w }) (word_of bs) else None
+-- a word is its pieces, one after another
+pub record IsWord (run : List ℕ) (w : Word) : Type 0 where
+  pub spells : run ≡ spelled w.pieces
+  pub longest : AreLongest w.pieces
 
 -- `name=value`, where the name isn't IFS
-abbrev pub assign_of : List ℕ → Option Assign
-assign_of run =
-    if starts_with starts_name run && not (same_numbers (take (front goes_on_in_name run) run) (codes "IFS"))
-    then value_behind (take (front goes_on_in_name run) run) (drop (front goes_on_in_name run) run)
-    else None
+pub record IsAssign (run : List ℕ) (a : Assign) : Type 0 where
+  pub value : List ℕ
+  pub spells : run ≡ a.name ++ 61 ∷ value
+  pub begins : starts_with starts_name a.name ≡ true
+  pub goes_on : front goes_on_in_name a.name ≡ length a.name
+  pub not_ifs : a.name ≢ codes "IFS"
+  pub is_value : IsWord value a.value

@@ -84,7 +84,6 @@ pub enum SyntaxRefused {
 
 impl From<Memory> for SyntaxRefused {
     ghost use Rattle.std.specs.Prelude.{◌≡◌};
-
     ghost use Rattle.ksh_parser.specs.declared.fault.SyntaxRefused.TheVariants.{Memory};
 
     ghost from_gives = { λ _ e. e ≡ Memory };
@@ -96,7 +95,6 @@ impl From<Memory> for SyntaxRefused {
 
 impl From<AllocError> for SyntaxRefused {
     ghost use Rattle.std.specs.Prelude.{◌≡◌};
-
     ghost use Rattle.ksh_parser.specs.declared.fault.SyntaxRefused.TheVariants.{Memory};
 
     ghost from_gives = { λ _ e. e ≡ Memory };

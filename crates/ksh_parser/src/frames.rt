@@ -21,11 +21,8 @@ pub(crate) struct Frames {
 
 impl Model for Frames {
     ghost use Rattle.std.specs.Prelude.{List, reverse};
-
     ghost use Rattle.ksh_parser.specs.declared.frames.Frame.{Frame};
-
     ghost use Rattle.std.specs.Coded.{codes};
-
     ghost use Rattle.ksh_script.specs.contracts.tree.Item as i;
 
     ghost Value = { List Frame };

@@ -8,4 +8,4 @@ mod state;
 mod word;
 
 pub use fault::{SyntaxFault, SyntaxKind, SyntaxRefused};
-pub use parse::{one_tree, parse_script, LONGEST_SCRIPT};
+pub use parse::{LONGEST_SCRIPT, one_tree, parse_script};

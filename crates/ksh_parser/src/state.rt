@@ -3,7 +3,7 @@ ghost use Rattle.ksh_parser.specs.Fault.{Gives};
 ghost use Rattle.ksh_parser.specs.Tokens.{Token};
 ghost use Rattle.ksh_parser.specs.Reading.{settled, is_open, step, with_run, finish, start};
 
-use crate::fault::{not_of_the_form, SyntaxRefused};
+use crate::fault::{SyntaxRefused, not_of_the_form};
 use crate::frames::{Frame, Frames};
 use crate::word::{read_assign, read_word};
 use ksh_base::{Items, Memory, Shared};
@@ -176,7 +176,12 @@ pub(crate) fn finish(state: State) -> Result<Items<Item>, SyntaxRefused>
     Ok(settle(state)?.items)
 }
 
-fn take_word(alloc: Global, line: u32, pending: Pending, run: &[u8]) -> Result<Pending, SyntaxRefused>
+fn take_word(
+    alloc: Global,
+    line: u32,
+    pending: Pending,
+    run: &[u8],
+) -> Result<Pending, SyntaxRefused>
     ensures { Gives result (with_run line pending run.now) }
 {
     match pending {

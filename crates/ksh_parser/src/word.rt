@@ -1,9 +1,10 @@
 ghost use Rattle.std.specs.Prelude.{◌≡◌, ◌<◌, ◌≤◌, ◌++◌, ◌∷◌, take, drop, length, IfOk, IfErr, IsErrOf, Option, None, Some, option_map};
 ghost use Rattle.ksh_base.specs.Name.{starts_name, goes_on_in_name};
 ghost use Rattle.ksh_parser.specs.Fault.{Gives, not_in_profile};
-ghost use Rattle.ksh_parser.specs.Words.{assign_of, front, is_plain, pieces, starts_with, value_behind, word_of};
+ghost use Rattle.ksh_parser.specs.Pieces.{assign_of, pieces, word_of};
+ghost use Rattle.ksh_parser.specs.Words.{front, is_plain, starts_with};
 
-use crate::fault::{not_of_the_form, SyntaxFault, SyntaxRefused};
+use crate::fault::{SyntaxFault, SyntaxRefused, not_of_the_form};
 use ksh_base::{Items, Name, Text};
 use ksh_script::{Assign, Piece, Word};
 use std::alloc::Global;

@@ -1,5 +1,5 @@
 use Rattle.std.proofs.Common.{◌≡◌, ◌++◌, length, option_map}
-use Rattle.ksh_parser.specs.Words.{pieces}
+use Rattle.ksh_parser.specs.Pieces.{pieces}
 use Rattle.ksh_parser.proofs.word.read_word.Given as goal
 
 -- the pieces so far, and those of the bytes that are left
