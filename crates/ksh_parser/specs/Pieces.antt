@@ -15,11 +15,11 @@ pieces (suc k) (b ∷ bs) = pieces k bs
 pieces zero (b ∷ bs) =
     if b == 36
     then (if starts_with starts_name bs
-        then option_map (λ ps. Value (take (front goes_on_in_name bs) bs) ∷ ps) (pieces (front goes_on_in_name bs) bs)
-        else None)
+    then option_map (λ ps. Value (take (front goes_on_in_name bs) bs) ∷ ps) (pieces (front goes_on_in_name bs) bs)
+    else None)
     else (if is_plain b
-        then option_map (λ ps. Literal (b ∷ take (front is_plain bs) bs) ∷ ps) (pieces (front is_plain bs) bs)
-        else None)
+    then option_map (λ ps. Literal (b ∷ take (front is_plain bs) bs) ∷ ps) (pieces (front is_plain bs) bs)
+    else None)
 
 abbrev pub word_of : List ℕ → Option Word
 word_of run = option_map (λ ps. record { pieces = ps }) (pieces 0 run)
