@@ -1,5 +1,5 @@
 -- What is read of a run is spelled so, and what is spelled so is read.
-use Rattle.std.proofs.Common.{◌≡◌, ◌≢◌, ℕ, zero, suc, ◌+◌, ◌≤◌, ◌==◌, Bool, true, false, not, ◌&&◌, List, [], ◌∷◌, ◌++◌, length, take, drop, refl, ap, sym, ◌∙◌, subst, Option, Some, None, option_map, if◌then◌else◌, arith, codes, eqb-true, length-take-le}
+use Rattle.std.proofs.Common.{◌≡◌, ℕ, zero, suc, ◌≤◌, ◌==◌, Bool, true, false, not, ◌&&◌, List, [], ◌∷◌, ◌++◌, length, take, drop, refl, ap, sym, ◌∙◌, subst, Option, Some, None, option_map, if◌then◌else◌, arith, codes, eqb-true, length-take-le}
 use Rattle.std.proofs.lemmas.List.{take-append-drop}
 use Rattle.std.proofs.Math.Seq.{take-append_seam, drop-append_seam}
 use lib.Pointwise.{bytes_decides}
@@ -64,7 +64,7 @@ value_sound : (b : ℕ) (bs : List ℕ) (ps : List Piece) → b ≡ 36 → start
     → AreRead (b ∷ bs) (Value (take (front goes_on_in_name bs) bs) ∷ ps)
 value_sound b bs ps is begins rest =
     let all : take (front goes_on_in_name bs) bs ++ spelled ps ≡ bs =
-        ap (λ xs. take (front goes_on_in_name bs) bs ++ xs) (sym rest.spells) ∙ take-append-drop (front goes_on_in_name bs) bs in
+    ap (λ xs. take (front goes_on_in_name bs) bs ++ xs) (sym rest.spells) ∙ take-append-drop (front goes_on_in_name bs) bs in
     record {
       spells = ap (λ n. n ∷ bs) is ∙ ap (λ xs. 36 ∷ xs) (sym all);
       longest = (front_begins bs begins, ap (front goes_on_in_name) all ∙ sym (front_len goes_on_in_name bs), rest.longest);
@@ -74,11 +74,15 @@ literal_sound : (b : ℕ) (bs : List ℕ) (ps : List Piece) → is_plain b ≡ t
     → AreRead (b ∷ bs) (Literal (b ∷ take (front is_plain bs) bs) ∷ ps)
 literal_sound b bs ps plain rest =
     let all : take (front is_plain bs) bs ++ spelled ps ≡ bs =
-        ap (λ xs. take (front is_plain bs) bs ++ xs) (sym rest.spells) ∙ take-append-drop (front is_plain bs) bs in
+    ap (λ xs. take (front is_plain bs) bs ++ xs) (sym rest.spells) ∙ take-append-drop (front is_plain bs) bs in
     record {
       spells = ap (λ xs. b ∷ xs) (sym all);
-      longest = ((λ none. cc), ap (λ xs. front is_plain (b ∷ xs)) all ∙ ap (λ (c : Bool). if c then suc (front is_plain bs) else 0) plain
-          ∙ ap suc (sym (front_len is_plain bs)), rest.longest);
+      longest = (
+        (λ none. cc),
+        ap (λ xs. front is_plain (b ∷ xs)) all ∙ ap (λ (c : Bool). if c then suc (front is_plain bs) else 0) plain
+            ∙ ap suc (sym (front_len is_plain bs)),
+        rest.longest,
+      );
     }
 
 pub pieces_sound : (k : ℕ) (bs : List ℕ) (ps : List Piece) → pieces k bs ≡ Some ps → AreRead (drop k bs) ps
@@ -98,6 +102,7 @@ pieces_sound zero (b ∷ bs) ps e = dollar (b == 36) refl (λ n qs. pieces_sound
         let some : Some (Value (take (front goes_on_in_name bs) bs) ∷ qs) ≡ Some ps = sym (rw (is, begins, read) refl) ∙ e in
         let same : Value (take (front goes_on_in_name bs) bs) ∷ qs ≡ ps = cc in
         subst (λ rs. AreRead (b ∷ bs) rs) same (value_sound b bs qs (eqb-true b 36 is) begins (rest (front goes_on_in_name bs) qs read))
+
     literal : (c : Bool) → is_plain b ≡ c → (b == 36) ≡ false → ((n : ℕ) (qs : List Piece) → pieces n bs ≡ Some qs → AreRead (drop n bs) qs)
         → (o : Option (List Piece)) → pieces (front is_plain bs) bs ≡ o → AreRead (b ∷ bs) ps
     literal false plain is rest o read = let none : None ≡ Some ps = sym (rw (is, plain) refl) ∙ e in cc
@@ -106,6 +111,7 @@ pieces_sound zero (b ∷ bs) ps e = dollar (b == 36) refl (λ n qs. pieces_sound
         let some : Some (Literal (b ∷ take (front is_plain bs) bs) ∷ qs) ≡ Some ps = sym (rw (is, plain, read) refl) ∙ e in
         let same : Literal (b ∷ take (front is_plain bs) bs) ∷ qs ≡ ps = cc in
         subst (λ rs. AreRead (b ∷ bs) rs) same (literal_sound b bs qs plain (rest (front is_plain bs) qs read))
+
     dollar : (c : Bool) → (b == 36) ≡ c → ((n : ℕ) (qs : List Piece) → pieces n bs ≡ Some qs → AreRead (drop n bs) qs) → AreRead (b ∷ bs) ps
     dollar true is rest = value (starts_with starts_name bs) refl is rest (pieces (front goes_on_in_name bs) bs) refl
     dollar false is rest = literal (is_plain b) refl is rest (pieces (front is_plain bs) bs) refl
@@ -132,8 +138,8 @@ literal_complete b t s ps longest rest =
     let one : suc (front is_plain (t ++ s)) ≡ suc (length t) = sym (ap (λ (c : Bool). if c then suc (front is_plain (t ++ s)) else 0) plain) ∙ longest in
     let count : front is_plain (t ++ s) ≡ length t = cc in
     literal_read (b ∷ (t ++ s)) (t ++ s) (b ∷ t) s (b ∷ t) b (length t) (Literal (b ∷ t)) refl (plain_is_no_dollar b plain) plain (sym count)
-      (sym (ap (λ k. take k (b ∷ (t ++ s))) (one_more (length t)) ∙ ap (λ xs. b ∷ xs) (take-append_seam t s)))
-      (sym (ap (λ k. drop k (b ∷ (t ++ s))) (one_more (length t)) ∙ drop-append_seam t s)) refl refl
+    (sym (ap (λ k. take k (b ∷ (t ++ s))) (one_more (length t)) ∙ ap (λ xs. b ∷ xs) (take-append_seam t s)))
+    (sym (ap (λ k. drop k (b ∷ (t ++ s))) (one_more (length t)) ∙ drop-append_seam t s)) refl refl
     ∙ ap (λ o. option_map (λ qs. Literal (b ∷ t) ∷ qs) o) rest
 
 value_complete : (name s : List ℕ) (ps : List Piece) → starts_with starts_name name ≡ true → front goes_on_in_name (name ++ s) ≡ length name → pieces 0 s ≡ Some ps
@@ -141,12 +147,12 @@ value_complete : (name s : List ℕ) (ps : List Piece) → starts_with starts_na
 value_complete [] s ps begins longest rest = let none : false ≡ true = begins in cc
 value_complete (b ∷ bs) s ps begins longest rest =
     ap (λ (c : Bool). if c
-        then option_map (λ qs. Value (take (front goes_on_in_name (b ∷ bs ++ s)) (b ∷ bs ++ s)) ∷ qs) (pieces (front goes_on_in_name (b ∷ bs ++ s)) (b ∷ bs ++ s))
-        else None) begins
+    then option_map (λ qs. Value (take (front goes_on_in_name (b ∷ bs ++ s)) (b ∷ bs ++ s)) ∷ qs) (pieces (front goes_on_in_name (b ∷ bs ++ s)) (b ∷ bs ++ s))
+    else None) begins
     ∙ ap (λ k. option_map (λ qs. Value (take k (b ∷ bs ++ s)) ∷ qs) (pieces k (b ∷ bs ++ s))) longest
     ∙ ap (λ xs. option_map (λ qs. Value xs ∷ qs) (pieces (length (b ∷ bs)) (b ∷ bs ++ s))) (take-append_seam (b ∷ bs) s)
     ∙ ap (λ o. option_map (λ qs. Value (b ∷ bs) ∷ qs) o)
-        (pieces_behind (length (b ∷ bs)) (b ∷ bs ++ s) ∙ ap (pieces 0) (drop-append_seam (b ∷ bs) s) ∙ rest)
+    (pieces_behind (length (b ∷ bs)) (b ∷ bs ++ s) ∙ ap (pieces 0) (drop-append_seam (b ∷ bs) s) ∙ rest)
 
 pieces_complete : (ps : List Piece) → AreLongest ps → pieces 0 (spelled ps) ≡ Some ps
 pieces_complete [] longest = refl
@@ -189,13 +195,17 @@ assign_complete run a is =
   where
     taken : take (length a.name) run ≡ a.name
     taken = ap (take (length a.name)) is.spells ∙ take-append_seam a.name (61 ∷ is.value)
+
     left : drop (length a.name) run ≡ 61 ∷ is.value
     left = ap (drop (length a.name)) is.spells ∙ drop-append_seam a.name (61 ∷ is.value)
+
     begins : starts_with starts_name run ≡ true
     begins = ap (starts_with starts_name) is.spells ∙ name_begins a.name (61 ∷ is.value) is.begins
+
     no : (c : Bool) → same_numbers a.name (codes "IFS") ≡ c → same_numbers a.name (codes "IFS") ≡ false
     no false e = e
     no true e = absurd (is.not_ifs ((bytes_decides a.name (codes "IFS")).0 e))
+
     no_ifs : same_numbers a.name (codes "IFS") ≡ false
     no_ifs = no (same_numbers a.name (codes "IFS")) refl
 
@@ -228,12 +238,12 @@ assign_sound run a e = go (starts_with starts_name run) refl (same_numbers (take
         then value_behind (take (front goes_on_in_name run) run) (drop (front goes_on_in_name run) run) else None) begins) ∙ e in cc
     go true begins true ifs = let none : None ≡ Some a =
         sym (ap (λ (c : Bool). if c && not (same_numbers (take (front goes_on_in_name run) run) (codes "IFS"))
-          then value_behind (take (front goes_on_in_name run) run) (drop (front goes_on_in_name run) run) else None) begins
+        then value_behind (take (front goes_on_in_name run) run) (drop (front goes_on_in_name run) run) else None) begins
         ∙ ap (λ (c : Bool). if not c then value_behind (take (front goes_on_in_name run) run) (drop (front goes_on_in_name run) run) else None) ifs) ∙ e in cc
     go true begins false ifs =
         let read : value_behind (take (front goes_on_in_name run) run) (drop (front goes_on_in_name run) run) ≡ Some a =
-          sym (ap (λ (c : Bool). if c && not (same_numbers (take (front goes_on_in_name run) run) (codes "IFS"))
-            then value_behind (take (front goes_on_in_name run) run) (drop (front goes_on_in_name run) run) else None) begins
-          ∙ ap (λ (c : Bool). if not c then value_behind (take (front goes_on_in_name run) run) (drop (front goes_on_in_name run) run) else None) ifs) ∙ e in
+        sym (ap (λ (c : Bool). if c && not (same_numbers (take (front goes_on_in_name run) run) (codes "IFS"))
+        then value_behind (take (front goes_on_in_name run) run) (drop (front goes_on_in_name run) run) else None) begins
+        ∙ ap (λ (c : Bool). if not c then value_behind (take (front goes_on_in_name run) run) (drop (front goes_on_in_name run) run) else None) ifs) ∙ e in
         value_sound_of run (take (front goes_on_in_name run) run) (drop (front goes_on_in_name run) run) a (sym (take-append-drop (front goes_on_in_name run) run))
-          (front_begins run begins) (front_whole goes_on_in_name run ∙ sym (front_len goes_on_in_name run)) ifs read
+        (front_begins run begins) (front_whole goes_on_in_name run ∙ sym (front_len goes_on_in_name run)) ifs read

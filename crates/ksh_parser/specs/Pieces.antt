@@ -1,5 +1,5 @@
 -- How a run of bytes is read, piece by piece.
-use Rattle.std.specs.Prelude.{ℕ, zero, suc, ◌==◌, Bool, not, ◌&&◌, List, [], ◌∷◌, take, drop, Option, Some, None, option_map, if◌then◌else◌, codes}
+use Rattle.std.specs.Prelude.{ℕ, zero, suc, ◌==◌, not, ◌&&◌, List, [], ◌∷◌, take, drop, Option, Some, None, option_map, if◌then◌else◌, codes}
 use Rattle.ksh_base.specs.Name.{starts_name, goes_on_in_name}
 use Rattle.ksh_base.specs.Text.{same_numbers}
 use Rattle.ksh_script.specs.declared.tree.Piece.{Piece}
@@ -15,11 +15,11 @@ pieces (suc k) (b ∷ bs) = pieces k bs
 pieces zero (b ∷ bs) =
     if b == 36
     then (if starts_with starts_name bs
-        then option_map (λ ps. Value (take (front goes_on_in_name bs) bs) ∷ ps) (pieces (front goes_on_in_name bs) bs)
-        else None)
+    then option_map (λ ps. Value (take (front goes_on_in_name bs) bs) ∷ ps) (pieces (front goes_on_in_name bs) bs)
+    else None)
     else (if is_plain b
-        then option_map (λ ps. Literal (b ∷ take (front is_plain bs) bs) ∷ ps) (pieces (front is_plain bs) bs)
-        else None)
+    then option_map (λ ps. Literal (b ∷ take (front is_plain bs) bs) ∷ ps) (pieces (front is_plain bs) bs)
+    else None)
 
 abbrev pub word_of : List ℕ → Option Word
 word_of run = option_map (λ ps. record { pieces = ps }) (pieces 0 run)
