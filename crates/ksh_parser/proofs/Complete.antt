@@ -13,7 +13,7 @@ use Rattle.ksh_parser.specs.declared.state.Pending.{Pending}
 use Rattle.ksh_parser.specs.declared.state.Pending.TheVariants.{Nothing, Print, Assign, Subshell}
 use Rattle.ksh_parser.specs.declared.state.State.{State}
 use Rattle.ksh_parser.specs.Tokens.{Token, Newline, Semicolon, Open, Doubled, Close, Run, newlines}
-use Rattle.ksh_parser.specs.Pieces.{word_of, assign_of}
+use Rattle.ksh_parser.specs.Pieces.{assign_of}
 use Rattle.ksh_parser.specs.Grammar.{IsList, nothing, newline, semicolon, command, IsCommand, print, assign, subshell, AreWords, AreAssigns, IsScript, item}
 use Rattle.ksh_parser.specs.Reading.{closed, ends, finish, is_open, item_of, run, start, step}
 use Rattle.ksh_parser.proofs.Ends.{run_append}

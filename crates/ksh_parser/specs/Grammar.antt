@@ -1,5 +1,5 @@
 -- The form of a script: which tokens make which commands.
-use Rattle.std.specs.Prelude.{◌≡◌, ◌≢◌, ℕ, suc, ◌+◌, ◌≤◌, Bool, true, false, List, [], ◌∷◌, ◌++◌, length, Some, codes}
+use Rattle.std.specs.Prelude.{◌≡◌, ◌≢◌, ℕ, suc, ◌+◌, ◌≤◌, Bool, true, false, List, [], ◌∷◌, ◌++◌, length, codes}
 use Rattle.ksh_script.specs.declared.tree.Item.{Item}
 use Rattle.ksh_script.specs.declared.tree.Command.{Command}
 use Rattle.ksh_script.specs.declared.tree.Command.TheVariants.{Print, Assign, Subshell}

@@ -1,5 +1,5 @@
 -- How a run of bytes is read, piece by piece.
-use Rattle.std.specs.Prelude.{ℕ, zero, suc, ◌==◌, Bool, not, ◌&&◌, List, [], ◌∷◌, take, drop, Option, Some, None, option_map, if◌then◌else◌, codes}
+use Rattle.std.specs.Prelude.{ℕ, zero, suc, ◌==◌, not, ◌&&◌, List, [], ◌∷◌, take, drop, Option, Some, None, option_map, if◌then◌else◌, codes}
 use Rattle.ksh_base.specs.Name.{starts_name, goes_on_in_name}
 use Rattle.ksh_base.specs.Text.{same_numbers}
 use Rattle.ksh_script.specs.declared.tree.Piece.{Piece}

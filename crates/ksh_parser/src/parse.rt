@@ -1,4 +1,4 @@
-ghost use Rattle.std.specs.Prelude.{◌≡◌, ◌<◌, ◌≤◌, ◌+◌, ◌^◌, ℕ, List, IfOk, IsErrOf, None, length};
+ghost use Rattle.std.specs.Prelude.{◌∷◌, ◌≡◌, ◌<◌, ◌≤◌, ◌+◌, ◌^◌, ℕ, List, IfOk, IsErrOf, None, length};
 ghost use Rattle.ksh_script.specs.declared.tree.Item as tree;
 ghost use Rattle.ksh_parser.specs.Fault.{Gives, not_in_profile};
 ghost use Rattle.ksh_parser.specs.Grammar.{IsScript, longest_script};
@@ -38,30 +38,35 @@ fn read_items(alloc: Global, text: &[u8]) -> Result<Items<Item>, SyntaxRefused>
 {
     let mut state = State::new(alloc);
     let mut rest = text;
-    while !rest.is_empty() {
-        let (next, behind) = read_token(alloc, state, rest)?;
+    while let Some((first, behind)) = rest.split_first() {
+        let (next, left) = read_token(alloc, state, rest, *first, behind)?;
         state = next;
-        rest = behind;
+        rest = left;
     }
     finish(state)
 }
 
-/// Takes the token with which the bytes begin, or a blank. Gives the bytes behind it.
-fn read_token(alloc: Global, state: State, bytes: &[u8]) -> Result<(State, &[u8]), SyntaxRefused>
-    requires { state.line + length bytes.now < 2 ^ 32 }
+/// Takes the token with which the bytes begin, or a blank, and gives the bytes behind it. The bytes
+/// are `first` and those behind.
+fn read_token<'a>(
+    alloc: Global,
+    state: State,
+    bytes: &'a [u8],
+    first: u8,
+    behind: &'a [u8],
+) -> Result<(State, &'a [u8]), SyntaxRefused>
+    requires begins { bytes.now ≡ first ∷ behind.now }
+    requires line { state.line + length bytes.now < 2 ^ 32 }
     ensures given { IfOk result (λ r. ends state bytes.now ≡ ends r.0 r.1.now) }
     ensures shorter { IfOk result (λ r. length r.1.now < length bytes.now) }
     ensures line { IfOk result (λ r. r.0.line + length r.1.now ≤ state.line + length bytes.now) }
     ensures fault { (f : SyntaxFault) → IsErrOf result (SyntaxRefused.Fault f) → (ends state bytes.now ≡ None) × (f ≡ not_in_profile) }
 {
-    let Some((first, behind)) = bytes.split_first() else {
-        return Err(SyntaxRefused::Memory);
-    };
-    if !parts_words(*first) {
-        let (run, behind) = bytes.split_at(run_len(bytes));
-        return Ok((take_run(alloc, state, run)?, behind));
+    if !parts_words(first) {
+        let (run, left) = bytes.split_at(run_len(bytes));
+        return Ok((take_run(alloc, state, run)?, left));
     }
-    match *first {
+    match first {
         b'\n' => Ok((take_newline(state)?, behind)),
         b';' => Ok((take_semicolon(state)?, behind)),
         b'(' => {

@@ -15,10 +15,10 @@ pub(crate) fn read_word(alloc: Global, run: &[u8]) -> Result<Word, SyntaxRefused
 {
     let mut pieces = Items::new(alloc);
     let mut rest = run;
-    while !rest.is_empty() {
-        let (piece, behind) = read_piece(alloc, rest)?;
+    while let Some((first, behind)) = rest.split_first() {
+        let (piece, left) = read_piece(alloc, rest, *first, behind)?;
         pieces.push(piece)?;
-        rest = behind;
+        rest = left;
     }
     Ok(Word { pieces })
 }
@@ -44,20 +44,23 @@ pub(crate) fn read_assign(alloc: Global, run: &[u8]) -> Result<Assign, SyntaxRef
     }
 }
 
-/// The piece with which the bytes begin, and the bytes behind it.
+/// The piece with which the bytes begin, and the bytes behind it. They are `first` and those behind.
 #[tactic(auto, using(crate::proofs::Pieces::pieces_behind))]
-fn read_piece(alloc: Global, bytes: &[u8]) -> Result<(Piece, &[u8]), SyntaxRefused>
+fn read_piece<'a>(
+    alloc: Global,
+    bytes: &'a [u8],
+    first: u8,
+    behind: &'a [u8],
+) -> Result<(Piece, &'a [u8]), SyntaxRefused>
+    requires { bytes.now ≡ first ∷ behind.now }
     ensures piece { IfOk result (λ r. pieces 0 bytes.now ≡ option_map (λ ps. r.0 ∷ ps) (pieces 0 r.1.now)) }
     ensures shorter { IfOk result (λ r. length r.1.now < length bytes.now) }
     ensures fault { (f : SyntaxFault) → IsErrOf result (SyntaxRefused.Fault f) → (pieces 0 bytes.now ≡ None) × (f ≡ not_in_profile) }
 {
-    let Some((first, behind)) = bytes.split_first() else {
-        return Err(SyntaxRefused::Memory);
-    };
-    if *first == b'$' {
+    if first == b'$' {
         return read_value(alloc, behind);
     }
-    if !is_plain(*first) {
+    if !is_plain(first) {
         return Err(not_of_the_form());
     }
     let len = plain_len(behind);

@@ -3,11 +3,11 @@ use Rattle.ksh_parser.specs.Reading.{ends, start}
 use Rattle.ksh_parser.proofs.parse.read_items.Given as goal
 
 -- what comes of the text comes of the bytes that are left
-abbrev pub invariant-loop-rest : goal.invariant-loop-rest
-invariant-loop-rest l = record {
+abbrev pub invariant-loop-first : goal.invariant-loop-first
+invariant-loop-first l = record {
   same : ends start l.text ≡ ends l.state l.rest;
   line : l.state.line + length l.rest ≤ 16777217;
 }
 
-abbrev pub decreases-loop-rest : goal.decreases-loop-rest
-decreases-loop-rest l = length l.rest
+abbrev pub decreases-loop-first : goal.decreases-loop-first
+decreases-loop-first l = length l.rest
