@@ -3,21 +3,31 @@ use crate::{Ended, Why, run_shell};
 use kernel_ask::{Answer, Ask, Call, Entry, ListPort, ListWorld, Refusal};
 use ksh_base::{BytesSource, Memory, ShellName, Text};
 use shell_state::Start;
-use shell_thread::{FewSpawner, ListAlbum, ShellStop};
+use shell_thread::{FewSpawner, NoAlbum, ShellEnd, ShellStop};
 use std::alloc::Global;
 use std::test::Fail;
 use std::thread::Threads;
 
-type Run = Ended<ListPort<Start>, ListAlbum<ListPort<Start>>>;
+type Run = Ended<ListPort<Start>, NoAlbum>;
 
-// A run of words over a source of these bytes, whose root gets these answers, and whose spawner refuses these starts.
+// What a run told: how it ended, and what the root wrote, each Write ended by `|`.
+#[derive(Drop)]
+struct Account {
+    why: Why,
+    status: u8,
+    stop: ShellStop,
+    out: Text,
+    errors: Text,
+    asks: usize,
+}
+
+// A run of words over a source of these bytes, whose root gets these answers, and whose first start is refused or not.
 fn run<R: Threads + AllocGlobal + Copy + Send + 'static>(
     rt: R,
     words: &[&[u8]],
-    bytes: &[u8],
-    fails: &[u64],
+    fails: Vec<u64>,
     answers: Vec<Answer>,
-    refused: &[u32],
+    refused: Vec<u32>,
 ) -> Result<Run, Memory> {
     let alloc = rt.alloc();
     let mut texts = Vec::new(alloc);
@@ -26,16 +36,15 @@ fn run<R: Threads + AllocGlobal + Copy + Send + 'static>(
     }
     let mut lists = Vec::new(alloc);
     lists.push((ShellName::root(alloc), answers))?;
-    let mut source = BytesSource::new(Text::of(alloc, bytes)?, Vec::from_slice(alloc, fails)?);
-    let spawner = FewSpawner::new(rt, Vec::from_slice(alloc, refused)?);
+    let mut source = BytesSource::new(Text::of(alloc, b"print a\n")?, fails);
     Ok(run_shell(
         alloc,
         texts.as_slice(),
         &[],
         &mut source,
         ListWorld::new(lists),
-        spawner,
-        ListAlbum::new(alloc),
+        FewSpawner::new(rt, refused),
+        NoAlbum,
     ))
 }
 
@@ -53,149 +62,92 @@ fn written(alloc: Global, entries: &[Entry<Start>], on: u32) -> Result<Text, Mem
     Ok(text)
 }
 
-// Whether the run of `-c` and the script ended so, and the root wrote this on handles 1 and 2 in so many asks.
-fn is_so<R: Threads + AllocGlobal + Copy + Send + 'static>(
+fn told(alloc: Global, ended: Run) -> Result<Account, Memory> {
+    let Ended { status, why, root } = ended;
+    let Some(root) = root else {
+        return Err(Memory);
+    };
+    let ShellEnd { stop, port, .. } = root;
+    let out = written(alloc, port.entries(), 1)?;
+    let errors = written(alloc, port.entries(), 2)?;
+    let asks = port.entries().len();
+    Ok(Account {
+        why,
+        status,
+        stop,
+        out,
+        errors,
+        asks,
+    })
+}
+
+// A run with no failing read, no listed answer but perhaps a refusal, and threads for all.
+fn tell<R: Threads + AllocGlobal + Copy + Send + 'static>(
     rt: R,
     words: &[&[u8]],
-    answers: Vec<Answer>,
-    refused: &[u32],
-    want: (Why, u8, &[u8], &[u8], usize),
-) -> Result<bool, Memory> {
-    let ended = run(rt, words, b"", &[], answers, refused)?;
-    let Some(root) = ended.root else {
-        return Ok(false);
-    };
-    let entries = root.port.entries();
-    Ok(
-        ended.why == want.0
-            && ended.status == want.1
-            && root.status == want.1
-            && written(rt.alloc(), entries, 1)?.bytes() == want.2
-            && written(rt.alloc(), entries, 2)?.bytes() == want.3
-            && entries.len() == want.4
-            && !root.port.live(),
+    refusal: Option<Refusal>,
+) -> Result<Account, Memory> {
+    let alloc = rt.alloc();
+    let mut answers = Vec::new(alloc);
+    if let Some(refusal) = refusal {
+        answers.push(Answer::Refused(refusal))?;
+    }
+    told(
+        alloc,
+        run(rt, words, Vec::new(alloc), answers, Vec::new(alloc))?,
     )
 }
 
 #[test]
 fn scripts_are_run_or_refused(rt: HostRuntime) -> Result<(), Fail> {
-    let alloc = rt.alloc();
-    let syntax = b"kshtree: syntax fault 10 at line 1, byte 0: NotInProfile\n|".as_slice();
-    let none = || Vec::new(alloc);
-    assert!(rt;
-        is_so(
-            rt,
-            &[b"-c", b"print hello"],
-            none(),
-            &[],
-            (Why::Meant, 0, b"hello\n|", b"", 1)
-        )?
-    );
-    assert!(rt; is_so(rt, &[b"-c", b""], none(), &[], (Why::Meant, 0, b"", b"", 0))?);
-    assert!(rt;
-        is_so(
-            rt,
-            &[b"-c", b"x=1; (x=2; print $x); print $x"],
-            none(),
-            &[],
-            (Why::Meant, 0, b"1\n|", b"", 4)
-        )?
-    );
-    let ended = run(rt, &[b"-c", b"print $(x)"], b"", &[], none(), &[])?;
-    assert!(rt; matches!(ended.why, Why::Syntax(_)) && ended.status == 2);
-    let Some(root) = ended.root else {
-        return Ok(());
-    };
-    assert!(rt; root.stop == ShellStop::Before);
-    assert!(rt; written(alloc, root.port.entries(), 2)?.bytes() == syntax);
+    let t = tell(rt, &[b"-c", b"print hello"], None)?;
+    assert!(rt; t.why == Why::Meant && t.status == 0 && t.asks == 1);
+    assert!(rt; t.out.bytes() == b"hello\n|".as_slice());
+    let t = tell(rt, &[b"-c", b""], None)?;
+    assert!(rt; t.why == Why::Meant && t.status == 0 && t.asks == 0);
+    let t = tell(rt, &[b"-c", b"print $(x)"], None)?;
+    assert!(rt; t.stop == ShellStop::Before && t.status == 2 && t.asks == 1);
+    let line = b"kshtree: syntax fault 10 at line 1, byte 0: NotInProfile\n|".as_slice();
+    assert!(rt; t.errors.bytes() == line);
+    let t = tell(rt, &[], None)?;
+    assert!(rt; t.errors.bytes() == b"kshtree: usage fault 1 at word 1\n|".as_slice());
     Ok(())
 }
 
 #[test]
-fn long_lines_are_cut_and_refusals_told(rt: HostRuntime) -> Result<(), Fail> {
-    let alloc = rt.alloc();
-    let mut script = Text::of(alloc, b"print ")?;
-    for _ in 0..5000u32 {
-        script.push(b'x')?;
-    }
-    let ended = run(rt, &[b"-c", script.bytes()], b"", &[], Vec::new(alloc), &[])?;
-    let Some(root) = ended.root else {
-        return Ok(());
-    };
-    let mut lengths = Vec::new(alloc);
-    for entry in root.port.entries() {
-        if let Ask::Asked(Call::Write { bytes, .. }) = &entry.ask {
-            lengths.push(bytes.len())?;
-        }
-    }
-    assert!(rt; lengths.as_slice() == [4096, 905].as_slice());
-    let refused = |refusal: Refusal| -> Result<Vec<Answer>, Fail> {
-        let mut answers = Vec::new(alloc);
-        answers.push(Answer::Refused(refusal))?;
-        Ok(answers)
-    };
-    let told = b"kshtree: line 1: print: refused\n|".as_slice();
-    assert!(rt;
-        is_so(
-            rt,
-            &[b"-c", b"print a"],
-            refused(Refusal::Io)?,
-            &[],
-            (Why::Meant, 1, b"a\n|", told, 2)
-        )?
-    );
-    assert!(rt;
-        is_so(
-            rt,
-            &[b"-c", b"print a"],
-            refused(Refusal::Broken)?,
-            &[],
-            (Why::Meant, 141, b"a\n|", b"", 1)
-        )?
-    );
+fn refused_writes_are_told_and_broken_ones_end(rt: HostRuntime) -> Result<(), Fail> {
+    let t = tell(rt, &[b"-c", b"print a"], Some(Refusal::Io))?;
+    assert!(rt; t.why == Why::Meant && t.status == 1 && t.asks == 2);
+    assert!(rt; t.errors.bytes() == b"kshtree: line 1: print: refused\n|".as_slice());
+    let t = tell(rt, &[b"-c", b"print a"], Some(Refusal::Broken))?;
+    assert!(rt; t.why == Why::Meant && t.status == 141 && t.asks == 1);
     Ok(())
 }
 
 #[test]
-fn budgets_end_at_each_unit(rt: HostRuntime) -> Result<(), Fail> {
+fn budgets_sources_and_threads(rt: HostRuntime) -> Result<(), Fail> {
     let alloc = rt.alloc();
     let script = b"x=1; (x=2; print $x); print $x".as_slice();
-    let asks: [(&[u8], u8, usize); 4] = [
-        (b"--budget=7", 0, 4),
-        (b"--budget=6", 123, 3),
-        (b"--budget=4", 123, 2),
-        (b"--budget=3", 123, 0),
-    ];
-    for (budget, status, entries) in asks {
-        let ended = run(rt, &[budget, b"-c", script], b"", &[], Vec::new(alloc), &[])?;
-        let Some(root) = ended.root else {
-            return Ok(());
-        };
-        assert!(rt; ended.status == status && root.port.entries().len() == entries);
-        let ends = root.album.ends();
-        for end in &ends {
-            assert!(rt; end.name.forks() == [1].as_slice());
-        }
-        assert!(rt; ends.len() == if entries > 0 { 1 } else { 0 });
-    }
-    Ok(())
-}
-
-#[test]
-fn words_sources_and_threads_fail_with_their_cause(rt: HostRuntime) -> Result<(), Fail> {
-    let alloc = rt.alloc();
-    let ended = run(rt, &[], b"", &[], Vec::new(alloc), &[])?;
-    assert!(rt; matches!(ended.why, Why::Usage(_)) && ended.status == 2);
-    let ended = run(rt, &[b"f"], b"print a\n", &[], Vec::new(alloc), &[])?;
-    assert!(rt; ended.why == Why::Meant);
-    let ended = run(rt, &[b"f"], b"print a\n", &[1], Vec::new(alloc), &[])?;
-    assert!(rt; ended.why == Why::SourceFault && ended.status == 122);
-    let Some(root) = ended.root else {
-        return Ok(());
-    };
-    let text = written(alloc, root.port.entries(), 2)?;
-    assert!(rt; text.bytes() == b"kshtree: cannot read the script\n|".as_slice());
-    let ended = run(rt, &[b"-c", b"(print a)"], b"", &[], Vec::new(alloc), &[0])?;
-    assert!(rt; ended.why == Why::Meant && ended.status == 254);
+    let t = tell(rt, &[b"--budget=7", b"-c", script], None)?;
+    assert!(rt; t.why == Why::Meant && t.asks == 4 && t.out.bytes() == b"1\n|".as_slice());
+    let t = tell(rt, &[b"--budget=6", b"-c", script], None)?;
+    assert!(rt; t.why == Why::Spent && t.status == 123 && t.asks == 3);
+    let t = tell(rt, &[b"f"], None)?;
+    assert!(rt; t.out.bytes() == b"a\n|".as_slice());
+    let mut fails = Vec::new(alloc);
+    fails.push(1u64)?;
+    let t = told(
+        alloc,
+        run(rt, &[b"f"], fails, Vec::new(alloc), Vec::new(alloc))?,
+    )?;
+    assert!(rt; t.why == Why::SourceFault && t.status == 122);
+    let mut refused = Vec::new(alloc);
+    refused.push(0u32)?;
+    let words: [&[u8]; 2] = [b"-c", b"(print a)"];
+    let t = told(
+        alloc,
+        run(rt, &words, Vec::new(alloc), Vec::new(alloc), refused)?,
+    )?;
+    assert!(rt; t.why == Why::Meant && t.status == 254 && t.out.is_empty());
     Ok(())
 }
