@@ -27,8 +27,8 @@ fn ready<Po: Port<Start>, P: Spawner, A: Album<Po>>(
     shell: &mut Shell<Po, P, A>,
     level: u32,
 ) -> Result<(), Memory>
-    requires { IsShell Po.sees A.list A.spare level shell.old }
-    ensures shell { IsShell Po.sees A.list A.spare level shell.new }
+    requires { IsShell Po.sees A.list P.faults A.spare level shell.old }
+    ensures shell { IsShell Po.sees A.list P.faults A.spare level shell.new }
     ensures stays { Stays Po.sees P.faults shell.old shell.new }
     ensures port { shell.new.port ≡ shell.old.port }
     ensures start { OnOk result (0 < P.spare shell.new.spawner) }
@@ -74,10 +74,10 @@ pub fn make<Po: Port<Start>, P: Spawner, A: Album<Po>>(
     state: &ShellState,
     list: &List,
 ) -> Result<Result<(u32, Forked<Po, P, A>), Refusal>, Memory>
-    requires shell { IsShell Po.sees A.list A.spare state.now.level shell.old }
+    requires shell { IsShell Po.sees A.list P.faults A.spare state.now.level shell.old }
     requires level { state.now.level < 64 }
     ensures stays { Stays Po.sees P.faults shell.old shell.new }
-    ensures shell { MatchResult result (λ r. MatchResult r (λ f. IsPending Po.sees A.list A.spare state.now.level shell.new f.0 f.1) (λ _. IsShell Po.sees A.list A.spare state.now.level shell.new)) (λ _. IsShell Po.sees A.list A.spare state.now.level shell.new) }
+    ensures shell { MatchResult result (λ r. MatchResult r (λ f. IsPending Po.sees A.list P.faults A.spare state.now.level shell.new f.0 f.1) (λ _. IsShell Po.sees A.list P.faults A.spare state.now.level shell.new)) (λ _. IsShell Po.sees A.list P.faults A.spare state.now.level shell.new) }
     ensures start { IfOk result (λ r. IfOk r (λ _. 0 < P.spare shell.new.spawner)) }
     ensures done { MatchResult result (λ r. MatchResult r (λ f. (Po.sees shell.new.port).done ≡ more (Po.sees shell.old.port).done (Fork (copy_of list.now state.now) standard) (SaysForked f.0)) (λ why. (Po.sees shell.new.port).done ≡ more (Po.sees shell.old.port).done (Fork (copy_of list.now state.now) standard) (Refused why))) (λ _. (Po.sees shell.new.port).done ≡ (Po.sees shell.old.port).done) }
 {
@@ -111,8 +111,8 @@ pub fn note_running<Po: Port<Start>, P: Spawner, A: Album<Po>>(
     child: u32,
     handle: Handled<Outcome<Po, P, A>, OutcomeOf<Po, P, A>, P::Rt>,
 )
-    requires { IsPending Po.sees A.list A.spare level shell.old child handle.job.value }
-    ensures shell { IsShell Po.sees A.list A.spare level shell.new }
+    requires { IsPending Po.sees A.list P.faults A.spare level shell.old child handle.job.value }
+    ensures shell { IsShell Po.sees A.list P.faults A.spare level shell.new }
     ensures noted { Noted Po.sees 0 shell.old shell.new }
     ensures seen { Po.sees shell.new.port ≡ marked (Po.sees shell.old.port) child true }
     ensures last { IsLast shell.new.handles.items child }
@@ -130,8 +130,9 @@ fn note_unrun<Po: Port<Start>, P: Spawner, A: Album<Po>>(
     child: u32,
     job: Forked<Po, P, A>,
 )
-    requires { IsPending Po.sees A.list A.spare level shell.old child job }
-    ensures shell { IsShell Po.sees A.list A.spare level shell.new }
+    requires pending { IsPending Po.sees A.list P.faults A.spare level shell.old child job }
+    requires fault { (p : P) × (0 < P.faults p) }
+    ensures shell { IsShell Po.sees A.list P.faults A.spare level shell.new }
     ensures noted { Noted Po.sees 1 shell.old shell.new }
     ensures seen { Po.sees shell.new.port ≡ marked (Po.sees shell.old.port) child false }
 {
@@ -160,8 +161,8 @@ fn note_ran<Po: Port<Start>, P: Spawner, A: Album<Po>>(
     child: u32,
     end: ShellEnd<Po, A>,
 )
-    requires { (job : Job Po P A) × IsPending Po.sees A.list A.spare level shell.old child job × Runs Po.sees A.list job end }
-    ensures shell { IsShell Po.sees A.list A.spare level shell.new }
+    requires { (job : Job Po P A) × IsPending Po.sees A.list P.faults A.spare level shell.old child job × Runs Po.sees A.list P.faults job end }
+    ensures shell { IsShell Po.sees A.list P.faults A.spare level shell.new }
     ensures noted { Noted Po.sees 0 shell.old shell.new }
     ensures seen { Po.sees shell.new.port ≡ marked (Po.sees shell.old.port) child true }
     ensures last { IsLast shell.new.handles.items child }
@@ -181,8 +182,9 @@ pub fn note_handed<Po: Port<Start>, P: Spawner, A: Album<Po>>(
     child: u32,
     outcome: Outcome<Po, P, A>,
 ) -> bool
-    requires { (job : Job Po P A) × IsPending Po.sees A.list A.spare level shell.old child job × Keeps Po.sees A.list job outcome }
-    ensures shell { IsShell Po.sees A.list A.spare level shell.new }
+    requires pending { (job : Job Po P A) × IsPending Po.sees A.list P.faults A.spare level shell.old child job × Keeps Po.sees A.list P.faults job outcome }
+    requires fault { (p : P) × (0 < P.faults p) }
+    ensures shell { IsShell Po.sees A.list P.faults A.spare level shell.new }
     ensures noted { Noted Po.sees 1 shell.old shell.new }
     ensures seen { Po.sees shell.new.port ≡ marked (Po.sees shell.old.port) child result }
     ensures last { result ≡ true → IsLast shell.new.handles.items child }
@@ -206,10 +208,10 @@ pub fn note_waited<Po: Port<Start>, P: Spawner, A: Album<Po>>(
     child: u32,
     status: u8,
 )
-    requires shell { IsShell Po.sees A.list A.spare level shell.old }
+    requires shell { IsShell Po.sees A.list P.faults A.spare level shell.old }
     requires last { (hs : List (ℕ × Wait Po P A P.Rt)) × (shell.old.handles.items ≡ hs ++ (child, Joined status) ∷ []) }
     requires some { 0 < vec_len shell.old.handles }
-    ensures shell { IsShell Po.sees A.list A.spare level shell.new }
+    ensures shell { IsShell Po.sees A.list P.faults A.spare level shell.new }
     ensures stays { Stays Po.sees P.faults shell.old shell.new }
     ensures seen { Po.sees shell.new.port ≡ waited_for (Po.sees shell.old.port) child status }
 {
@@ -224,7 +226,7 @@ pub fn open<Po: Port<Start>, P: Spawner, A: Album<Po>>(
     job: Forked<Po, P, A>,
 ) -> (Shell<Po, P, A>, ShellState, List)
     requires { CanRun Po.sees A.list job }
-    ensures shell { IsShell Po.sees A.list A.spare job.start.state.level result.0 }
+    ensures shell { IsShell Po.sees A.list P.faults A.spare job.start.state.level result.0 }
     ensures same { (result.0.port ≡ job.port) × (result.0.name ≡ job.name) × (result.1 ≡ job.start.state) × (result.2 ≡ job.start.body) }
 {
     let Forked {

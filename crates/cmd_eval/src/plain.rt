@@ -18,9 +18,9 @@ pub fn ask<Po: Port<Start>, P: Spawner, A: Album<Po>>(
     state: &mut ShellState,
     call: Call,
 ) -> Result<Answer, Stop>
-    requires { IsShell Po.sees A.list A.spare state.old.level shell.old }
+    requires { IsShell Po.sees A.list P.faults A.spare state.old.level shell.old }
     ensures means { Means state.old.budget (Po.sees shell.old.port).done (Po.sees shell.new.port).done (λ n. asked (Asked call) state.old) (ended state.new result) }
-    ensures shell { IsShell Po.sees A.list A.spare state.old.level shell.new }
+    ensures shell { IsShell Po.sees A.list P.faults A.spare state.old.level shell.new }
     ensures stays { Stays Po.sees P.faults shell.old shell.new }
     ensures level { state.new.level ≡ state.old.level }
     ensures budget { state.new.budget ≤ state.old.budget }
@@ -41,9 +41,9 @@ fn tell<Po: Port<Start>, P: Spawner, A: Album<Po>>(
     line: u32,
     words: &[u8],
 ) -> Result<Flow, Stop>
-    requires { IsShell Po.sees A.list A.spare state.old.level shell.old }
+    requires { IsShell Po.sees A.list P.faults A.spare state.old.level shell.old }
     ensures means { Means state.old.budget (Po.sees shell.old.port).done (Po.sees shell.new.port).done (λ n. tell line words.now state.old) (ended state.new result) }
-    ensures shell { IsShell Po.sees A.list A.spare state.old.level shell.new }
+    ensures shell { IsShell Po.sees A.list P.faults A.spare state.old.level shell.new }
     ensures stays { Stays Po.sees P.faults shell.old shell.new }
     ensures level { state.new.level ≡ state.old.level }
     ensures budget { state.new.budget ≤ state.old.budget }
@@ -68,9 +68,9 @@ pub fn not_forked<Po: Port<Start>, P: Spawner, A: Album<Po>>(
     line: u32,
     refusal: Refusal,
 ) -> Result<Flow, Stop>
-    requires { IsShell Po.sees A.list A.spare state.old.level shell.old }
+    requires { IsShell Po.sees A.list P.faults A.spare state.old.level shell.old }
     ensures means { Means state.old.budget (Po.sees shell.old.port).done (Po.sees shell.new.port).done (λ n. not_forked line refusal state.old) (ended state.new result) }
-    ensures shell { IsShell Po.sees A.list A.spare state.old.level shell.new }
+    ensures shell { IsShell Po.sees A.list P.faults A.spare state.old.level shell.new }
     ensures stays { Stays Po.sees P.faults shell.old shell.new }
     ensures level { state.new.level ≡ state.old.level }
     ensures budget { state.new.budget ≤ state.old.budget }
@@ -94,9 +94,9 @@ pub fn too_deep<Po: Port<Start>, P: Spawner, A: Album<Po>>(
     state: &mut ShellState,
     line: u32,
 ) -> Result<Flow, Stop>
-    requires { IsShell Po.sees A.list A.spare state.old.level shell.old }
+    requires { IsShell Po.sees A.list P.faults A.spare state.old.level shell.old }
     ensures means { Means state.old.budget (Po.sees shell.old.port).done (Po.sees shell.new.port).done (λ n. too_deep line state.old) (ended state.new result) }
-    ensures shell { IsShell Po.sees A.list A.spare state.old.level shell.new }
+    ensures shell { IsShell Po.sees A.list P.faults A.spare state.old.level shell.new }
     ensures stays { Stays Po.sees P.faults shell.old shell.new }
     ensures level { state.new.level ≡ state.old.level }
     ensures budget { state.new.budget ≤ state.old.budget }

@@ -34,9 +34,9 @@ fn begin<Po: Port<Start> + 'static, P: Spawner + 'static, A: Album<Po> + 'static
     child: u32,
     job: Forked<Po, P, A>,
 ) -> bool
-    requires pending { IsPending Po.sees A.list A.spare level shell.old child job }
+    requires pending { IsPending Po.sees A.list P.faults A.spare level shell.old child job }
     requires room { 0 < P.spare shell.old.spawner }
-    ensures shell { IsShell Po.sees A.list A.spare level shell.new }
+    ensures shell { IsShell Po.sees A.list P.faults A.spare level shell.new }
     ensures stays { Stays Po.sees P.faults shell.old shell.new }
     ensures seen { Po.sees shell.new.port ≡ marked (Po.sees shell.old.port) child result }
     ensures last { result ≡ true → IsLast shell.new.handles.items child }
@@ -47,7 +47,7 @@ fn begin<Po: Port<Start> + 'static, P: Spawner + 'static, A: Album<Po> + 'static
     };
     let work = move |go: bool| -> Outcome<Po, P, A>
         requires { CanRun Po.sees A.list job }
-        ensures { Keeps Po.sees A.list job result }
+        ensures { Keeps Po.sees A.list P.faults job result }
     {
         if go {
             Outcome::Ran(run_job(alloc, job))
@@ -71,7 +71,7 @@ fn join_job<Po: Port<Start> + 'static, P: Spawner + 'static, A: Album<Po> + 'sta
     handle: Handled<Outcome<Po, P, A>, OutcomeOf<Po, P, A>, P::Rt>,
 ) -> ShellEnd<Po, A>
     requires { CanRun Po.sees A.list handle.job.value }
-    ensures { Runs Po.sees A.list handle.job.value result }
+    ensures { Runs Po.sees A.list P.faults handle.job.value result }
 {
     match handle.join() {
         Outcome::Ran(end) => end,
@@ -86,7 +86,7 @@ pub fn run_job<Po: Port<Start> + 'static, P: Spawner + 'static, A: Album<Po> + '
     job: Forked<Po, P, A>,
 ) -> ShellEnd<Po, A>
     requires { CanRun Po.sees A.list job }
-    ensures { Runs Po.sees A.list job result }
+    ensures { Runs Po.sees A.list P.faults job result }
 {
     let (mut shell, mut state, body) = open(alloc, job);
     let flow = eval_list(&mut shell, &mut state, body.get().as_slice());
@@ -102,8 +102,8 @@ fn join_all<Po: Port<Start> + 'static, P: Spawner + 'static, A: Album<Po> + 'sta
     level: u32,
 )
     requires level { level ≤ 64 }
-    requires joining { IsJoining Po.sees A.list A.spare level (Po.sees shell.old.port) shell.old.album shell.old.handles.items }
-    ensures joining { IsJoining Po.sees A.list A.spare level (Po.sees shell.old.port) shell.new.album shell.new.handles.items }
+    requires joining { IsJoining Po.sees A.list P.faults A.spare level (Po.sees shell.old.port) shell.old.album shell.old.handles.items }
+    ensures joining { IsJoining Po.sees A.list P.faults A.spare level (Po.sees shell.old.port) shell.new.album shell.new.handles.items }
     ensures idle { running shell.new.handles.items ≡ 0 }
     ensures same { IsSame shell.old shell.new }
 {
@@ -121,8 +121,8 @@ fn join_at<Po: Port<Start> + 'static, P: Spawner + 'static, A: Album<Po> + 'stat
 ) -> (u32, u8)
     requires at { at < vec_len shell.old.handles }
     requires level { level ≤ 64 }
-    requires joining { IsJoining Po.sees A.list A.spare level (Po.sees shell.old.port) shell.old.album shell.old.handles.items }
-    ensures joining { IsJoining Po.sees A.list A.spare level (Po.sees shell.old.port) shell.new.album shell.new.handles.items }
+    requires joining { IsJoining Po.sees A.list P.faults A.spare level (Po.sees shell.old.port) shell.old.album shell.old.handles.items }
+    ensures joining { IsJoining Po.sees A.list P.faults A.spare level (Po.sees shell.old.port) shell.new.album shell.new.handles.items }
     ensures last { shell.new.handles.items ≡ remove shell.old.handles.items at ++ (result.0, Joined result.1) ∷ [] }
     ensures len { vec_len shell.new.handles ≡ vec_len shell.old.handles }
     ensures same { IsSame shell.old shell.new }
@@ -145,8 +145,8 @@ fn settle<Po: Port<Start> + 'static, P: Spawner + 'static, A: Album<Po> + 'stati
     awaited: Awaited<Po, P, A>,
 ) -> u8
     requires level { level ≤ 64 }
-    requires taken { IsTaken Po.sees A.list A.spare level shell.old child awaited }
-    ensures joining { IsJoining Po.sees A.list A.spare level (Po.sees shell.old.port) shell.new.album (shell.old.handles.items ++ (child, Joined result) ∷ []) }
+    requires taken { IsTaken Po.sees A.list P.faults A.spare level shell.old child awaited }
+    ensures joining { IsJoining Po.sees A.list P.faults A.spare level (Po.sees shell.old.port) shell.new.album (shell.old.handles.items ++ (child, Joined result) ∷ []) }
     ensures same { IsSame shell.old shell.new }
     ensures handles { shell.new.handles ≡ shell.old.handles }
 {
@@ -168,11 +168,11 @@ fn wait_last<Po: Port<Start> + 'static, P: Spawner + 'static, A: Album<Po> + 'st
     state: &mut ShellState,
     child: u32,
 ) -> Result<Flow, Stop>
-    requires shell { IsShell Po.sees A.list A.spare state.old.level shell.old }
+    requires shell { IsShell Po.sees A.list P.faults A.spare state.old.level shell.old }
     requires last { IsLast shell.old.handles.items child }
     requires some { 0 < vec_len shell.old.handles }
     ensures means { Means state.old.budget (Po.sees shell.old.port).done (Po.sees shell.new.port).done (λ n. wait child state.old) (ended state.new result) }
-    ensures shell { IsShell Po.sees A.list A.spare state.old.level shell.new }
+    ensures shell { IsShell Po.sees A.list P.faults A.spare state.old.level shell.new }
     ensures stays { Stays Po.sees P.faults shell.old shell.new }
     ensures level { state.new.level ≡ state.old.level }
     ensures budget { state.new.budget ≤ state.old.budget }
@@ -195,10 +195,10 @@ fn run_child<Po: Port<Start> + 'static, P: Spawner + 'static, A: Album<Po> + 'st
     child: u32,
     job: Forked<Po, P, A>,
 ) -> Result<Flow, Stop>
-    requires pending { IsPending Po.sees A.list A.spare state.old.level shell.old child job }
+    requires pending { IsPending Po.sees A.list P.faults A.spare state.old.level shell.old child job }
     requires room { 0 < P.spare shell.old.spawner }
     ensures means { Means state.old.budget (Po.sees shell.old.port).done (Po.sees shell.new.port).done (λ n. begin child state.old) (ended state.new result) }
-    ensures shell { IsShell Po.sees A.list A.spare state.old.level shell.new }
+    ensures shell { IsShell Po.sees A.list P.faults A.spare state.old.level shell.new }
     ensures stays { Stays Po.sees P.faults shell.old shell.new }
     ensures level { state.new.level ≡ state.old.level }
     ensures budget { state.new.budget ≤ state.old.budget }
@@ -219,10 +219,10 @@ fn fork_shell<Po: Port<Start> + 'static, P: Spawner + 'static, A: Album<Po> + 's
     line: u32,
     list: &List,
 ) -> Result<Flow, Stop>
-    requires shell { IsShell Po.sees A.list A.spare state.old.level shell.old }
+    requires shell { IsShell Po.sees A.list P.faults A.spare state.old.level shell.old }
     requires level { state.old.level < 64 }
     ensures means { Means state.old.budget (Po.sees shell.old.port).done (Po.sees shell.new.port).done (λ n. fork line list.now state.old) (ended state.new result) }
-    ensures shell { IsShell Po.sees A.list A.spare state.old.level shell.new }
+    ensures shell { IsShell Po.sees A.list P.faults A.spare state.old.level shell.new }
     ensures stays { Stays Po.sees P.faults shell.old shell.new }
     ensures level { state.new.level ≡ state.old.level }
     ensures budget { state.new.budget ≤ state.old.budget }
@@ -244,9 +244,9 @@ fn eval_subshell<Po: Port<Start> + 'static, P: Spawner + 'static, A: Album<Po> +
     line: u32,
     list: &List,
 ) -> Result<Flow, Stop>
-    requires shell { IsShell Po.sees A.list A.spare state.old.level shell.old }
+    requires shell { IsShell Po.sees A.list P.faults A.spare state.old.level shell.old }
     ensures means { Means state.old.budget (Po.sees shell.old.port).done (Po.sees shell.new.port).done (λ n. subshell line list.now state.old) (ended state.new result) }
-    ensures shell { IsShell Po.sees A.list A.spare state.old.level shell.new }
+    ensures shell { IsShell Po.sees A.list P.faults A.spare state.old.level shell.new }
     ensures stays { Stays Po.sees P.faults shell.old shell.new }
     ensures level { state.new.level ≡ state.old.level }
     ensures budget { state.new.budget ≤ state.old.budget }
@@ -269,9 +269,9 @@ fn eval_builtin<Po: Port<Start> + 'static, P: Spawner + 'static, A: Album<Po> + 
     line: u32,
     words: &[Text],
 ) -> Result<Flow, Stop>
-    requires shell { IsShell Po.sees A.list A.spare state.old.level shell.old }
+    requires shell { IsShell Po.sees A.list P.faults A.spare state.old.level shell.old }
     ensures means { Means state.old.budget (Po.sees shell.old.port).done (Po.sees shell.new.port).done (λ n. run_builtin (work n) which line words.now state.old) (ended state.new result) }
-    ensures shell { IsShell Po.sees A.list A.spare state.old.level shell.new }
+    ensures shell { IsShell Po.sees A.list P.faults A.spare state.old.level shell.new }
     ensures stays { Stays Po.sees P.faults shell.old shell.new }
     ensures level { state.new.level ≡ state.old.level }
     ensures budget { state.new.budget ≤ state.old.budget }
@@ -283,11 +283,11 @@ fn eval_builtin<Po: Port<Start> + 'static, P: Spawner + 'static, A: Album<Po> + 
         Told,
         Stop,
     >
-        requires shell { IsShell Po.sees A.list A.spare level rest.old }
+        requires shell { IsShell Po.sees A.list P.faults A.spare level rest.old }
         requires level { inner.old.level ≡ level }
         requires budget { inner.old.budget ≤ limit }
         ensures means { Means limit (Po.sees rest.old.port).done (Po.sees rest.new.port).done (λ n. perform (work n) (inner.old, task)) (ended inner.new result) }
-        ensures shell { IsShell Po.sees A.list A.spare level rest.new }
+        ensures shell { IsShell Po.sees A.list P.faults A.spare level rest.new }
         ensures stays { Stays Po.sees P.faults rest.old rest.new }
         ensures level { inner.new.level ≡ inner.old.level }
         ensures budget { inner.new.budget ≤ inner.old.budget }
@@ -306,9 +306,9 @@ fn do_task<Po: Port<Start> + 'static, P: Spawner + 'static, A: Album<Po> + 'stat
     state: &mut ShellState,
     task: Task,
 ) -> Result<Told, Stop>
-    requires { IsShell Po.sees A.list A.spare state.old.level shell.old }
+    requires { IsShell Po.sees A.list P.faults A.spare state.old.level shell.old }
     ensures means { Means state.old.budget (Po.sees shell.old.port).done (Po.sees shell.new.port).done (λ n. perform (work n) (state.old, task)) (ended state.new result) }
-    ensures shell { IsShell Po.sees A.list A.spare state.old.level shell.new }
+    ensures shell { IsShell Po.sees A.list P.faults A.spare state.old.level shell.new }
     ensures stays { Stays Po.sees P.faults shell.old shell.new }
     ensures level { state.new.level ≡ state.old.level }
     ensures budget { state.new.budget ≤ state.old.budget }
@@ -334,9 +334,9 @@ fn eval_print<Po: Port<Start> + 'static, P: Spawner + 'static, A: Album<Po> + 's
     line: u32,
     words: &[Word],
 ) -> Result<Flow, Stop>
-    requires { IsShell Po.sees A.list A.spare state.old.level shell.old }
+    requires { IsShell Po.sees A.list P.faults A.spare state.old.level shell.old }
     ensures means { Means state.old.budget (Po.sees shell.old.port).done (Po.sees shell.new.port).done (λ n. run_builtin (work n) Print line (words_of state.old.vars words.now) state.old) (ended state.new result) }
-    ensures shell { IsShell Po.sees A.list A.spare state.old.level shell.new }
+    ensures shell { IsShell Po.sees A.list P.faults A.spare state.old.level shell.new }
     ensures stays { Stays Po.sees P.faults shell.old shell.new }
     ensures level { state.new.level ≡ state.old.level }
     ensures budget { state.new.budget ≤ state.old.budget }
@@ -354,9 +354,9 @@ fn eval_form<Po: Port<Start> + 'static, P: Spawner + 'static, A: Album<Po> + 'st
     line: u32,
     command: &Command,
 ) -> Result<Flow, Stop>
-    requires { IsShell Po.sees A.list A.spare state.old.level shell.old }
+    requires { IsShell Po.sees A.list P.faults A.spare state.old.level shell.old }
     ensures means { Means state.old.budget (Po.sees shell.old.port).done (Po.sees shell.new.port).done (λ n. form (work n) line (out-Command command.now) state.old) (ended state.new result) }
-    ensures shell { IsShell Po.sees A.list A.spare state.old.level shell.new }
+    ensures shell { IsShell Po.sees A.list P.faults A.spare state.old.level shell.new }
     ensures stays { Stays Po.sees P.faults shell.old shell.new }
     ensures level { state.new.level ≡ state.old.level }
     ensures budget { state.new.budget ≤ state.old.budget }
@@ -378,9 +378,9 @@ fn eval_item<Po: Port<Start> + 'static, P: Spawner + 'static, A: Album<Po> + 'st
     state: &mut ShellState,
     item: &Item,
 ) -> Result<Flow, Stop>
-    requires { IsShell Po.sees A.list A.spare state.old.level shell.old }
+    requires { IsShell Po.sees A.list P.faults A.spare state.old.level shell.old }
     ensures means { Means state.old.budget (Po.sees shell.old.port).done (Po.sees shell.new.port).done (λ n. work n item.now state.old) (ended state.new result) }
-    ensures shell { IsShell Po.sees A.list A.spare state.old.level shell.new }
+    ensures shell { IsShell Po.sees A.list P.faults A.spare state.old.level shell.new }
     ensures stays { Stays Po.sees P.faults shell.old shell.new }
     ensures level { state.new.level ≡ state.old.level }
     ensures budget { state.new.budget ≤ state.old.budget }
@@ -398,9 +398,9 @@ pub fn eval_list<Po: Port<Start> + 'static, P: Spawner + 'static, A: Album<Po> +
     state: &mut ShellState,
     list: &[Item],
 ) -> Result<Flow, Stop>
-    requires { IsShell Po.sees A.list A.spare state.old.level shell.old }
+    requires { IsShell Po.sees A.list P.faults A.spare state.old.level shell.old }
     ensures means { Means state.old.budget (Po.sees shell.old.port).done (Po.sees shell.new.port).done (λ n. list_of (work n) list.now state.old) (ended state.new result) }
-    ensures shell { IsShell Po.sees A.list A.spare state.old.level shell.new }
+    ensures shell { IsShell Po.sees A.list P.faults A.spare state.old.level shell.new }
     ensures stays { Stays Po.sees P.faults shell.old shell.new }
     ensures level { state.new.level ≡ state.old.level }
     ensures budget { state.new.budget ≤ state.old.budget }

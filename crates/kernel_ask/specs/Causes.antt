@@ -1,8 +1,9 @@
 -- Counts of what went wrong.
-use Rattle.std.specs.Prelude.{◌≡◌, ℕ, ◌+◌, ◌-◌, ◌^◌, ◌≤◌, min, OnErr}
+use Rattle.std.specs.Prelude.{◌≡◌, ℕ, ◌+◌, ◌-◌, ◌^◌, ◌≤◌, min, List, Option, Some, None, sum_by, OnErr}
 use Rattle.std.specs.declared.result.Result.{Result}
 use Rattle.kernel_ask.specs.declared.ask.Answer.{Answer}
 use Rattle.kernel_ask.specs.declared.ask.Answer.TheVariants.{Refused}
+use Rattle.kernel_ask.specs.declared.ask.Entry.{Entry}
 use Rattle.kernel_ask.specs.declared.ask.ForkRefused.{ForkRefused}
 use Rattle.kernel_ask.specs.declared.ask.ForkRefused.TheVariants.{Memory as WantsMemory, Refused as IsRefused}
 
@@ -24,3 +25,16 @@ CountsRefusal before now _ = now ≡ before
 abbrev pub CountsForkRefusal : {F : Type 0} → ℕ → ℕ → ForkRefused F → Type 0
 CountsForkRefusal before now (IsRefused _ _) = RoseBy 1 before now
 CountsForkRefusal before now (WantsMemory _) = now ≡ before
+
+abbrev pub is_refusal : Answer → ℕ
+is_refusal (Refused _) = 1
+is_refusal _ = 0
+
+-- how many asks of a transcript were refused
+abbrev pub refused_in : {F : Type 0} → List (Entry F) → ℕ
+refused_in es = sum_by (λ e. is_refusal e.answer) es
+
+-- a transcript that is told has at most as many refusals as were counted, or the count stands at its type's end
+abbrev pub CoversRefusals : {F : Type 0} → Option (List (Entry F)) → ℕ → Type 0
+CoversRefusals None count = Unit {0}
+CoversRefusals (Some es) count = min (refused_in es) (2 ^ 64 - 1) ≤ count

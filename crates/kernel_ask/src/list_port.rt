@@ -1,9 +1,9 @@
 // The ports of the world of the tests.
-ghost use Rattle.std.specs.Prelude.{◌≡◌, ◌<◌, ◌≤◌, ◌+◌, ◌-◌, ◌*◌, ℕ, true, vec_len, vec_capacity, sum_by, IfOk, OnOk, false, [], ◌∷◌, ◌++◌, slice_index_or, slice_set, length};
+ghost use Rattle.std.specs.Prelude.{◌≡◌, ◌<◌, ◌≤◌, ◌+◌, ◌-◌, ◌*◌, ℕ, true, vec_len, vec_capacity, sum_by, min, ◌^◌, IfOk, OnOk, false, [], ◌∷◌, ◌++◌, slice_index_or, slice_set, length};
 ghost use Rattle.kernel_ask.specs.declared.ask.Answer.TheVariants.{Forked};
 ghost use Rattle.kernel_ask.specs.declared.ask.Ask.TheVariants.{Fork};
 ghost use Rattle.kernel_ask.specs.declared.ask.Phase.TheVariants.{Made, Unrun};
-ghost use Rattle.kernel_ask.specs.Causes.{CountsRefusal, CountsForkRefusal};
+ghost use Rattle.kernel_ask.specs.Causes.{CountsRefusal, CountsForkRefusal, is_refusal, refused_in};
 ghost use Rattle.kernel_ask.specs.Listed.{calls_in, is_call, next_answer, Refuses};
 ghost use Rattle.kernel_ask.specs.Owed.{owed};
 
@@ -26,6 +26,7 @@ pub struct ListPort<F> {
     lists: Shared<Vec<(ShellName, Vec<Answer>)>>,
     ghost room: { vec_len done + sum_by owed children.items ≤ vec_capacity done },
     ghost counted: { calls ≡ calls_in done.items },
+    ghost covers: { min (refused_in done.items) (2 ^ 64 - 1) ≤ refusals },
 }
 
 impl<F: Snapshot> ListPort<F> {
@@ -97,6 +98,7 @@ impl<F: Snapshot> ListPort<F> {
     }
 
     // Appends an entry that no fork has room for.
+    #[tactic(auto, using(crate::proofs::Counts::covers_more))]
     fn push(&mut self, ask: Ask<F>, answer: Answer)
         requires room { vec_len self.old.done + (sum_by owed self.old.children.items + 1) ≤ vec_capacity self.old.done }
         ensures done { self.new.done.items ≡ self.old.done.items ++ record { ask = ask; answer = answer } ∷ [] }
@@ -106,9 +108,7 @@ impl<F: Snapshot> ListPort<F> {
         if matches!(ask, Ask::Asked(_)) {
             self.calls += 1;
         }
-        if matches!(answer, Answer::Refused(_)) {
-            self.refusals = self.refusals.saturating_add(1);
-        }
+        self.refusals = counted(self.refusals, &answer);
         self.done.push_reserved(Entry { ask, answer });
     }
 
@@ -150,6 +150,7 @@ impl<F: Snapshot> ListPort<F> {
     }
 
     // Appends a fork.
+    #[tactic(auto, using(crate::proofs::Counts::covers_more))]
     fn push_fork(&mut self, start: F, keep: Items<Handle>, number: u32)
         requires room { vec_len self.old.done + (sum_by owed self.old.children.items + 3) ≤ vec_capacity self.old.done }
         requires child { vec_len self.old.children < vec_capacity self.old.children }
@@ -165,10 +166,12 @@ impl<F: Snapshot> ListPort<F> {
     }
 
     // Appends what became of a forked shell.
+    #[tactic(auto, using(crate::proofs::Counts::covers_more))]
     fn note(&mut self, child: u32, phase: Phase, ask: Ask<F>, answer: Answer)
         requires child { (0 < child) × (child ≤ vec_len self.old.children) }
         requires owed { owed phase + 1 ≤ owed (slice_index_or self.old.children.items (child - 1) Unrun) }
         requires ask { is_call ask ≡ false }
+        requires answer { is_refusal answer ≡ 0 }
         ensures done { self.new.done.items ≡ self.old.done.items ++ record { ask = ask; answer = answer } ∷ [] }
         ensures children { self.new.children.items ≡ slice_set self.old.children.items (child - 1) phase }
         ensures rest { (self.new.live ≡ self.old.live) × (self.new.name ≡ self.old.name) × (self.new.lists ≡ self.old.lists) × (self.new.refusals ≡ self.old.refusals) }
@@ -176,6 +179,17 @@ impl<F: Snapshot> ListPort<F> {
         let at = child as usize - 1;
         self.children[at] = phase;
         self.done.push_reserved(Entry { ask, answer });
+    }
+}
+
+// The count of refusals after that answer.
+fn counted(refusals: u64, answer: &Answer) -> u64
+    ensures counts { CountsRefusal refusals result answer.now }
+    ensures total { min (refusals + is_refusal answer.now) (2 ^ 64 - 1) ≤ result }
+{
+    match answer {
+        Answer::Refused(_) => refusals.saturating_add(1),
+        _ => refusals,
     }
 }
 
@@ -190,6 +204,8 @@ impl<F: Snapshot + Send> Port<F> for ListPort<F> {
     ghost sees = { seen_of };
 
     ghost refusals = { λ p. p.refusals };
+
+    ghost covers = { λ p. p.covers };
 
     #[tactic(auto, using(crate::proofs::Counts::owed_le))]
     fn act(&mut self, alloc: Global, call: Call) -> Result<Answer, Memory>

@@ -1,7 +1,7 @@
 // What a shell acts on.
 ghost use Rattle.std.specs.Prelude.{◌≡◌, ◌<◌, ◌≤◌, ◌+◌, ℕ, Bool, true, IfOk, IfErr, OnErr, length};
 ghost use Rattle.kernel_ask.specs.declared.ask.Phase.TheVariants.{Made, Begun};
-ghost use Rattle.kernel_ask.specs.Causes.{CountsRefusal, CountsForkRefusal};
+ghost use Rattle.kernel_ask.specs.Causes.{CountsRefusal, CountsForkRefusal, CoversRefusals};
 ghost use Rattle.kernel_ask.specs.Seen.{Seen, IsIn, NoneMade, acted, forked, child_of, marked, waited_for, ended, root_of, GivesBack, SaysTooMany};
 
 use crate::ask::{Answer, Call, ForkRefused, Handle, Snapshot};
@@ -19,6 +19,9 @@ pub trait Port<F: Snapshot>: Sized + Send + Drop {
 
     /// How often the world has refused an ask, a number that never falls.
     ghost refusals: { Self → ℕ };
+
+    /// No transcript has more refusals than its port has counted.
+    ghost covers: { (p : Self) → CoversRefusals (sees p).done (refusals p) };
 
     /// Asks for something and appends the ask with its answer.
     fn act(&mut self, alloc: Global, call: Call) -> Result<Answer, Memory>

@@ -2,13 +2,16 @@
 use Rattle.std.proofs.Common.{◌≡◌, ℕ, ◌⊎◌, inl, inr, List, [], ◌∷◌, ◌++◌, Option, Some, None, refl, sym, ◌∙◌, ap, Bool}
 use Rattle.std.proofs.Common.{zero, suc, sum_by, All}
 use Rattle.std.proofs.lemmas.List.Elements.{All-nil}
-use Rattle.kernel_ask.specs.Seen.{Seen, acted, ended}
+use Rattle.kernel_ask.specs.Seen.{Seen, more, acted, ended}
 use Rattle.kernel_ask.specs.declared.ask.Answer.{Answer}
-use Rattle.kernel_ask.specs.declared.ask.Ask.TheVariants.{Asked}
+use Rattle.kernel_ask.specs.declared.ask.Answer.TheVariants.{ShellEnded}
+use Rattle.kernel_ask.specs.declared.ask.Ask.{Ask}
+use Rattle.kernel_ask.specs.declared.ask.Ask.TheVariants.{Asked, Begin, WaitShell}
+use Rattle.kernel_ask.specs.declared.ask.Entry.{Entry}
 use Rattle.kernel_ask.specs.declared.ask.Call.{Call}
-use Rattle.shell_family.specs.Family.{ChildFits, FamilyTo, named}
-use Rattle.shell_family.specs.Told.{ForTold, from, at_child, is_settled}
-use Rattle.shell_family.proofs.Told.{told_weaker, from_more}
+use Rattle.shell_family.specs.Family.{ChildFits, FamilyTo, IsOrderly, named}
+use Rattle.shell_family.specs.Told.{ForTold, ForksStart, Saw, forks_in, from, at_child, is_settled}
+use Rattle.shell_family.proofs.Told.{told_weaker, from_more, saw_more, starts_more, forks_same}
 use Rattle.ksh_run.specs.Top.{EndsList, IsFresh, IsRoot, why_of}
 use Rattle.ksh_script.specs.declared.tree.Item.{Item}
 use Rattle.shell_family.specs.Meaning.{RunTold}
@@ -31,21 +34,63 @@ module _ {Po A : Type 0} (sees : Po → Seen Start) where
       → RunTold (record { state = root_state budget; body = list }) (sees e.port).done e.stop e.status → EndsList sees budget list (why_of e.stop) e.status e
   ends_list e budget list ran listed spent lost run = list_by e.stop e budget list refl ran listed spent lost run
 
-module _ {Po A : Type 0} (sees : Po → Seen Start) (list : A → Option (List (ShellEnd Po A))) where
+module _ {Po P A : Type 0} (sees : Po → Seen Start) (list : A → Option (List (ShellEnd Po A))) (faults : P → ℕ) where
   -- a shell that forked none has a family of itself alone
-  family_none : (n : ℕ) (e : ShellEnd Po A) → (sees e.port).children ≡ [] → ForTold (list e.album) (λ ends. ends ≡ []) → FamilyTo sees list n e
-  family_none zero e h g = tt
-  family_none (suc n) e h g =
-      told_weaker (λ ends. ends ≡ []) (λ ends. ((k : ℕ) → sum_by (named k) ends ≡ at_child is_settled (sees e.port).children k) × All (λ c. ChildFits sees (sees e.port) c × FamilyTo sees list n c) ends) (list e.album)
-      (λ ends none. ((λ k. rw (none, h) refl), rw none (All-nil (λ c. ChildFits sees (sees e.port) c × FamilyTo sees list n c)))) g
+  family_none : (n : ℕ) (e : ShellEnd Po A) → IsOrderly (sees e.port) → (sees e.port).children ≡ [] → ForTold (list e.album) (λ ends. ends ≡ []) → FamilyTo sees list faults n e
+  family_none zero e o h g = tt
+  family_none (suc n) e o h g = (
+    o,
+    told_weaker (λ ends. ends ≡ [])
+        (λ ends. ((k : ℕ) → sum_by (named k) ends ≡ at_child is_settled (sees e.port).children k) × All (λ c. ChildFits sees faults (sees e.port) c × FamilyTo sees list faults n c) ends) (list e.album)
+        (λ ends none. ((λ k. rw (none, h) refl), rw none (All-nil (λ c. ChildFits sees faults (sees e.port) c × FamilyTo sees list faults n c)))) g,
+  )
+
+  -- a transcript of at most one call is in order
+  called_once : (s t : Seen Start) (call : Call) (answer : Answer) → IsFresh s → t ≡ ended (acted s call answer) → IsOrderly t
+  called_once s t call answer fresh is =
+      let ch : t.children ≡ [] = ap (λ (z : Seen Start). z.children) is ∙ fresh.children in
+      rw is (record {
+        starts = starts_more s.done (Asked call) answer tt (told_weaker (λ es. es ≡ []) ForksStart s.done (λ es h. rw h tt) fresh.done);
+        forks = forks_same s.done s.children s.children (Asked call) answer (λ k. refl) (λ k. refl)
+            (told_weaker (λ es. es ≡ []) (λ es. (k : ℕ) → forks_in k es ≡ at_child is_settled s.children k) s.done (λ es h k. rw (h, fresh.children) refl) fresh.done);
+        begins = λ k a z. absurd (unseen s.done (Begin k) a (λ q. cc) fresh.done z);
+        waits = λ k v z. absurd (unseen s.done (WaitShell k) (ShellEnded v) (λ q. cc) fresh.done z);
+      })
+    where
+      unseen : (d : Option (List (Entry Start))) (x : Ask Start) (y : Answer) → (x ≡ Asked call → ⊥) → ForTold d (λ es. es ≡ []) → Saw (more d (Asked call) answer) x y → ⊥
+      unseen None x y apart h z = z
+      unseen (Some es) x y apart h z =
+          elim (saw_more (Some es) x (Asked call) y answer z) [ inl p ↦ rw h at p | inr e ↦ apart e.0 ]
 
   -- a root that wrote one line and ended
   pub refused_root : (s : Seen Start) (e : ShellEnd Po A) (call : Call) (answer : Answer) → IsFresh s → e.name ≡ [] → ForTold (list e.album) (λ ends. ends ≡ []) → sees e.port ≡ ended (acted s call answer)
-      → IsRoot sees list (from s) e
+      → IsRoot sees list faults (from s) e
   refused_root s e call answer fresh name album port = record {
     name = name;
     over = ap (λ (z : Seen Start). z.live) port;
     port_name = ap (λ (z : Seen Start). z.name) port ∙ fresh.name;
     of = ap (λ (z : Seen Start). from z) port ∙ from_more s.origin s.done (Asked call) answer;
-    family = λ n. family_none n e (ap (λ (z : Seen Start). z.children) port ∙ fresh.children) album;
+    family = λ n. family_none n e (called_once s (sees e.port) call answer fresh port) (ap (λ (z : Seen Start). z.children) port ∙ fresh.children) album;
   }
+
+  -- a root that asked nothing and ended
+  pub lost_root : (s : Seen Start) (e : ShellEnd Po A) → IsFresh s → e.name ≡ [] → ForTold (list e.album) (λ ends. ends ≡ []) → sees e.port ≡ ended s → IsRoot sees list faults (from s) e
+  lost_root s e fresh name album port = record {
+    name = name;
+    over = ap (λ (z : Seen Start). z.live) port;
+    port_name = ap (λ (z : Seen Start). z.name) port ∙ fresh.name;
+    of = ap (λ (z : Seen Start). from z) port;
+    family = λ n. family_none n e (rw port silent) (ap (λ (z : Seen Start). z.children) port ∙ fresh.children) album;
+  }
+    where
+      unseen : (d : Option (List (Entry Start))) (x : Ask Start) (y : Answer) → ForTold d (λ es. es ≡ []) → Saw d x y → ⊥
+      unseen None x y h z = z
+      unseen (Some es) x y h z = rw h at z
+
+      silent : IsOrderly (ended s)
+      silent = record {
+        starts = told_weaker (λ es. es ≡ []) ForksStart s.done (λ es h. rw h tt) fresh.done;
+        forks = told_weaker (λ es. es ≡ []) (λ es. (k : ℕ) → forks_in k es ≡ at_child is_settled s.children k) s.done (λ es h k. rw (h, fresh.children) refl) fresh.done;
+        begins = λ k a z. absurd (unseen s.done (Begin k) a fresh.done z);
+        waits = λ k v z. absurd (unseen s.done (WaitShell k) (ShellEnded v) fresh.done z);
+      }

@@ -81,12 +81,12 @@ module _ {Po A : Type 0} (sees : Po → Seen Start) where
 
   -- The root's end, whatever came: its name is empty, its port isn't live, is of the world and tells where that tells, and
   -- every end in its album, at any depth, is of the family.
-  pub record IsRoot (list : A → Option (List (ShellEnd Po A))) (world : ℕ × Bool) (e : ShellEnd Po A) : Type 0 where
+  pub record IsRoot {P : Type 0} (list : A → Option (List (ShellEnd Po A))) (faults : P → ℕ) (world : ℕ × Bool) (e : ShellEnd Po A) : Type 0 where
     pub name : e.name ≡ []
     pub over : (sees e.port).live ≡ false
     pub port_name : (sees e.port).name ≡ []
     pub of : from (sees e.port) ≡ world
-    pub family : Family sees list e
+    pub family : Family sees list faults e
 
   -- memory ran out before anything was asked
   abbrev pub IsLost : Why → ℕ → Option (ShellEnd Po A) → Type 0

@@ -11,7 +11,7 @@ use crate::ended::{Ended, Why};
 use kernel_ask::{Call, Handle, Port};
 use ksh_base::{ShellName, Text};
 use shell_state::Start;
-use shell_thread::{Album, ShellEnd, ShellStop};
+use shell_thread::{Album, ShellEnd, ShellStop, Spawner};
 use std::alloc::Global;
 
 // The end of a root whose list never began.
@@ -35,12 +35,17 @@ fn before<Po: Port<Start>, A: Album<Po>>(
     }
 }
 
-/// Memory ran out before anything was asked.
-pub fn lose<Po: Port<Start>, A: Album<Po>>(alloc: Global, port: Po, album: A) -> Ended<Po, A>
+/// Memory ran out before anything was asked. Nothing was started, and the spawner is let go.
+pub fn lose<Po: Port<Start>, P: Spawner, A: Album<Po>>(
+    alloc: Global,
+    port: Po,
+    _spawner: P,
+    album: A,
+) -> Ended<Po, A>
     requires fresh { IsFresh (Po.sees port) }
     requires album { ForTold (A.list album) (λ ends. ends ≡ []) }
     ensures lost { IsLost Po.sees result.why result.status result.root }
-    ensures root { ForTold result.root (IsRoot Po.sees A.list (from (Po.sees port))) }
+    ensures root { ForTold result.root (IsRoot Po.sees A.list P.faults (from (Po.sees port))) }
 {
     Ended {
         status: 121,
@@ -50,9 +55,10 @@ pub fn lose<Po: Port<Start>, A: Album<Po>>(alloc: Global, port: Po, album: A) ->
 }
 
 /// One Write of the line on handle 2, whatever its answer.
-pub fn refuse<Po: Port<Start>, A: Album<Po>>(
+pub fn refuse<Po: Port<Start>, P: Spawner, A: Album<Po>>(
     alloc: Global,
     mut port: Po,
+    spawner: P,
     album: A,
     why: Why,
     status: u8,
@@ -61,7 +67,7 @@ pub fn refuse<Po: Port<Start>, A: Album<Po>>(
     requires fresh { IsFresh (Po.sees port) }
     requires album { ForTold (A.list album) (λ ends. ends ≡ []) }
     ensures refuses { Refuses Po.sees why line status result }
-    ensures root { ForTold result.root (IsRoot Po.sees A.list (from (Po.sees port))) }
+    ensures root { ForTold result.root (IsRoot Po.sees A.list P.faults (from (Po.sees port))) }
 {
     if write_line(alloc, &mut port, line) {
         return Ended {
@@ -70,7 +76,7 @@ pub fn refuse<Po: Port<Start>, A: Album<Po>>(
             root: Some(before(alloc, port, status, album)),
         };
     }
-    lose(alloc, port, album)
+    lose(alloc, port, spawner, album)
 }
 
 // One Write of the line on handle 2. Whether there was memory for it.

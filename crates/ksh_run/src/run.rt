@@ -58,10 +58,10 @@ fn run_list<Po: Port<Start> + 'static, P: Spawner + 'static, A: Album<Po> + 'sta
     requires fresh { IsFresh (Po.sees port) }
     requires album { ForTold (A.list album) (λ ends. ends ≡ []) }
     ensures ends { EndsRun Po.sees budget body result }
-    ensures root { ForTold result.root (IsRoot Po.sees A.list (from (Po.sees port))) }
+    ensures root { ForTold result.root (IsRoot Po.sees A.list P.faults (from (Po.sees port))) }
 {
     let Ok(state) = ShellState::root(alloc, budget) else {
-        return lose(alloc, port, album);
+        return lose(alloc, port, spawner, album);
     };
     let end = run_job(
         alloc,
@@ -103,15 +103,15 @@ fn run_text<Po: Port<Start> + 'static, P: Spawner + 'static, A: Album<Po> + 'sta
     requires fresh { IsFresh (Po.sees port) }
     requires album { ForTold (A.list album) (λ ends. ends ≡ []) }
     ensures ends { EndsText Po.sees budget text.now result }
-    ensures root { ForTold result.root (IsRoot Po.sees A.list (from (Po.sees port))) }
+    ensures root { ForTold result.root (IsRoot Po.sees A.list P.faults (from (Po.sees port))) }
 {
     match parse_script(alloc, text) {
         Ok(list) => run_list(alloc, budget, list, port, spawner, album),
         Err(SyntaxRefused::Fault(fault)) => match syntax_text(alloc, fault) {
-            Ok(line) => refuse(alloc, port, album, Why::Syntax(fault), 2, line),
-            Err(_) => lose(alloc, port, album),
+            Ok(line) => refuse(alloc, port, spawner, album, Why::Syntax(fault), 2, line),
+            Err(_) => lose(alloc, port, spawner, album),
         },
-        Err(SyntaxRefused::Memory) => lose(alloc, port, album),
+        Err(SyntaxRefused::Memory) => lose(alloc, port, spawner, album),
     }
 }
 
@@ -128,33 +128,34 @@ fn run_plan<S: Source, Po: Port<Start> + 'static, P: Spawner + 'static, A: Album
     requires fresh { IsFresh (Po.sees port) }
     requires album { ForTold (A.list album) (λ ends. ends ≡ []) }
     ensures ends { EndsPlan Po.sees plan (S.left source.old) (S.faults source.old) (S.faults source.new) result }
-    ensures root { ForTold result.root (IsRoot Po.sees A.list (from (Po.sees port))) }
+    ensures root { ForTold result.root (IsRoot Po.sees A.list P.faults (from (Po.sees port))) }
 {
     match script_text(alloc, source, plan.script) {
         Ok(text) => run_text(alloc, plan.budget, text.bytes(), port, spawner, album),
         Err(ReadRefused::Failed) => match source_text(alloc) {
-            Ok(line) => refuse(alloc, port, album, Why::SourceFault, 122, line),
-            Err(_) => lose(alloc, port, album),
+            Ok(line) => refuse(alloc, port, spawner, album, Why::SourceFault, 122, line),
+            Err(_) => lose(alloc, port, spawner, album),
         },
-        Err(ReadRefused::Memory) => lose(alloc, port, album),
+        Err(ReadRefused::Memory) => lose(alloc, port, spawner, album),
     }
 }
 
 // The words have a fault.
-fn refuse_words<Po: Port<Start>, A: Album<Po>>(
+fn refuse_words<Po: Port<Start>, P: Spawner, A: Album<Po>>(
     alloc: Global,
     fault: UsageFault,
     port: Po,
+    spawner: P,
     album: A,
 ) -> Ended<Po, A>
     requires fresh { IsFresh (Po.sees port) }
     requires album { ForTold (A.list album) (λ ends. ends ≡ []) }
     ensures refuses { Refuses Po.sees (Usage fault) (usage_line fault) 2 result }
-    ensures root { ForTold result.root (IsRoot Po.sees A.list (from (Po.sees port))) }
+    ensures root { ForTold result.root (IsRoot Po.sees A.list P.faults (from (Po.sees port))) }
 {
     match usage_text(alloc, fault) {
-        Ok(line) => refuse(alloc, port, album, Why::Usage(fault), 2, line),
-        Err(_) => lose(alloc, port, album),
+        Ok(line) => refuse(alloc, port, spawner, album, Why::Usage(fault), 2, line),
+        Err(_) => lose(alloc, port, spawner, album),
     }
 }
 
@@ -194,7 +195,7 @@ pub fn run_shell<
     requires env { env.now ≡ [] }
     requires album { ForTold (A.list album) (λ ends. ends ≡ []) }
     ensures ends { EndsBy W.Port.sees words.now (S.left source.old) (S.faults source.old) (S.faults source.new) result.why result.status result.root }
-    ensures root { ForTold result.root (IsRoot W.Port.sees A.list (W.origin world, W.told world)) }
+    ensures root { ForTold result.root (IsRoot W.Port.sees A.list P.faults (W.origin world, W.told world)) }
 {
     let _ = env;
     match read_words(alloc, words) {
@@ -203,7 +204,7 @@ pub fn run_shell<
             Err(_) => no_root(),
         },
         Err(WordsRefused::Usage(fault)) => match world.root(alloc) {
-            Ok(port) => refuse_words(alloc, fault, port, album),
+            Ok(port) => refuse_words(alloc, fault, port, spawner, album),
             Err(_) => no_root(),
         },
         Err(WordsRefused::Memory) => no_root(),

@@ -3,7 +3,7 @@ use crate::{Ended, Why, run_shell};
 use kernel_ask::{Answer, Ask, Call, Entry, ListPort, ListWorld, Refusal};
 use ksh_base::{BytesSource, Memory, ShellName, Text};
 use shell_state::Start;
-use shell_thread::{FewSpawner, NoAlbum, ShellEnd, ShellStop};
+use shell_thread::{CallerSpawner, FewSpawner, Kept, ListAlbum, NoAlbum, ShellEnd, ShellStop};
 use std::alloc::Global;
 use std::test::Fail;
 use std::thread::Threads;
@@ -115,6 +115,20 @@ fn scripts_are_run_or_refused(rt: HostRuntime) -> Result<(), Fail> {
 }
 
 #[test]
+fn long_output_is_written_in_pieces(rt: HostRuntime) -> Result<(), Fail> {
+    let mut script = Text::of(rt.alloc(), b"print ")?;
+    for _ in 0..5_000 {
+        script.push(b'a')?;
+    }
+    let t = tell(rt, &[b"-c", script.bytes()], None)?;
+    assert!(rt; t.why == Why::Meant && t.status == 0 && t.asks == 2);
+    let out = t.out.bytes();
+    assert!(rt; out.len() == 5_003 && out.get(4_095) == Some(&b'a') && out.get(4_096) == Some(&b'|'));
+    assert!(rt; out.get(5_001) == Some(&b'\n') && out.get(5_002) == Some(&b'|'));
+    Ok(())
+}
+
+#[test]
 fn refused_writes_are_told_and_broken_ones_end(rt: HostRuntime) -> Result<(), Fail> {
     let t = tell(rt, &[b"-c", b"print a"], Some(Refusal::Io))?;
     assert!(rt; t.why == Why::Meant && t.status == 1 && t.asks == 2);
@@ -149,5 +163,41 @@ fn budgets_sources_and_threads(rt: HostRuntime) -> Result<(), Fail> {
         run(rt, &words, Vec::new(alloc), Vec::new(alloc), refused)?,
     )?;
     assert!(rt; t.why == Why::Meant && t.status == 254 && t.out.is_empty());
+    Ok(())
+}
+
+// The ends of the shells that the root of a script forked.
+fn ends<R: Threads + AllocGlobal + Copy + Send + 'static>(
+    rt: R,
+    script: &[u8],
+) -> Result<Vec<Kept<ListPort<Start>>>, Memory> {
+    let alloc = rt.alloc();
+    let ended = run_shell(
+        alloc,
+        &[Text::of(alloc, b"-c")?, Text::of(alloc, script)?],
+        &[],
+        &mut BytesSource::new(Text::empty(alloc), Vec::new(alloc)),
+        ListWorld::new(Vec::new(alloc)),
+        CallerSpawner::new(rt),
+        ListAlbum::new(alloc),
+    );
+    match ended.root {
+        Some(root) => Ok(root.album.ends()),
+        None => Err(Memory),
+    }
+}
+
+#[test]
+fn the_album_has_one_end_for_each_fork(rt: HostRuntime) -> Result<(), Fail> {
+    let alloc = rt.alloc();
+    let ends = ends(rt, b"x=1; (x=2; print $x); print $x")?;
+    assert!(rt; ends.len() == 1);
+    let Some(end) = ends.first() else {
+        return Err(Fail::from(Memory));
+    };
+    assert!(rt; end.name.forks() == [1].as_slice() && end.status == 0 && end.album.is_empty());
+    assert!(rt; end.stop == ShellStop::Meant && !end.port.live());
+    let out = written(alloc, end.port.entries(), 1)?;
+    assert!(rt; out.bytes() == b"2\n|".as_slice());
     Ok(())
 }

@@ -1,28 +1,61 @@
 // The program `kshtree`.
 #![tactic(auto)]
 
-mod std_port;
-mod words;
-
-use ksh_base::{BytesSource, FileSource, Plan, ScriptFrom, Source, Text, WordsRefused, read_words};
+use ksh_base::{
+    BytesSource, FileSource, Items, Plan, ScriptFrom, Source, Text, WordsRefused, read_words,
+};
 use ksh_run::run_shell;
-use shell_thread::{CallerSpawner, NoAlbum};
+use os_world::{StdWorld, SystemWords, program_words};
+use shell_thread::{CallerSpawner, NoAlbum, Spawner, ThreadSpawner};
 use std::fs::Files;
 use std::process::ExitCode;
-use std::thread::Threads;
-use std_port::StdWorld;
-use words::program_words;
+use std::thread::{Promise, Threads};
 
 // The status of want of memory.
 const NO_MEMORY: u8 = 121;
 
+// The words are run in a thread whose stack has a stated size; in this one where there is no other.
 fn main(rt: HostRuntime) -> ExitCode {
     let world = StdWorld::new(rt.stdout(), rt.stderr());
-    let status = match program_words(&rt, rt.alloc()) {
-        Ok(words) => run(rt, world, words.as_slice()),
-        Err(_) => NO_MEMORY,
+    let mut spawner = ThreadSpawner::new(rt);
+    let Ok(words) = program_words(&SystemWords::new(&rt), rt.alloc()) else {
+        return ExitCode::from(NO_MEMORY);
     };
-    ExitCode::from(status)
+    if spawner.room(rt.alloc()).is_err() {
+        return ExitCode::from(NO_MEMORY);
+    }
+    let work = move |go: bool| -> Outcome {
+        if go {
+            Outcome::Ended(run(rt, world, words.as_slice()))
+        } else {
+            Outcome::Back(world, words)
+        }
+    };
+    let outcome = match spawner.start(AnyOutcome, work) {
+        Ok(job) => job.join(),
+        Err(outcome) => outcome,
+    };
+    ExitCode::from(match outcome {
+        Outcome::Ended(status) => status,
+        Outcome::Back(world, words) => run(rt, world, words.as_slice()),
+    })
+}
+
+// What became of the run: its status, or its parts where it hasn't begun.
+#[derive(Drop)]
+enum Outcome {
+    Ended(u8),
+    Back(StdWorld, Items<Text>),
+}
+
+// Nothing is promised of it.
+#[derive(Drop)]
+struct AnyOutcome;
+
+impl Promise<Outcome> for AnyOutcome {
+    ghost use Rattle.std.specs.Prelude.{⊤};
+
+    ghost kept_by = { λ _ _. ⊤ };
 }
 
 // Picks the source by the words, and runs them.

@@ -168,3 +168,15 @@ is_in_begun ps k h =
     let e = r.1 in
     let l = r.2 in
     let i : k - 1 ≡ r.0 = omega arith in (omega arith, omega arith, rw i (r.3 Unrun))
+
+phase_waited : (p : Phase) → is_waited p ≡ 1 → is_settled p ≡ 1
+phase_waited Made h = absurd (omega arith)
+phase_waited Begun h = refl
+phase_waited Unrun h = refl
+phase_waited Waited h = refl
+
+pub waited_settled : (ps : List Phase) (k : ℕ) → at_child is_waited ps k ≡ 1 → at_child is_settled ps k ≡ 1
+waited_settled [] k h = h
+waited_settled (p ∷ ps) zero h = h
+waited_settled (p ∷ ps) (suc zero) h = phase_waited p h
+waited_settled (p ∷ ps) (suc (suc k)) h = waited_settled ps (suc k) h

@@ -44,7 +44,7 @@ use Rattle.shell_family.specs.declared.forked.Awaited.TheVariants.{Running, Join
 use Rattle.shell_family.specs.declared.forked.Shell.{Shell}
 use Rattle.shell_family.proofs.Counts.{same_or_not, set_end, cond_same, at_le, begun_le, is_in_begun}
 use Rattle.shell_family.proofs.Told.{from_more, from_emptied, has_more, has_last, no_threads_same, no_threads_more, told_weaker, all_parts}
-use Rattle.shell_family.proofs.Steps.{NewEnd, fits_noted, fits_ended, fits_first, family_done, fits_unrun, fits_begun, fits_ran, fits_joined, fits_waited, fits_forked, running_le}
+use Rattle.shell_family.proofs.Steps.{NewEnd, fits_noted, fits_ended, fits_first, family_done, fits_unrun, fits_begun, fits_ran, fits_joined, fits_waited, running_le}
 
 -- the mark of the child that was forked last
 pub marked_of :
@@ -87,6 +87,10 @@ rose_less m n a b h r = let x = r.0 in let y = r.1 in (x, omega arith)
 pub rose_join : (m n a b c : ℕ) → RoseBy m a b → RoseBy n b c → RoseBy (m + n) a c
 rose_join m n a b c r s = let x = r.0 in let y = r.1 in let z = s.0 in let w = s.1 in (omega arith, omega arith)
 
+-- a count that rose isn't 0
+pub rose_some : (a b : ℕ) → RoseBy 1 a b → 0 < b
+rose_some a b r = let x = r.0 in let y = r.1 in omega arith
+
 pub rose_none : (a b : ℕ) → a ≤ b → RoseBy 0 a b
 rose_none a b h = (h, omega arith)
 
@@ -125,7 +129,7 @@ run_told start (Some xs) y s r h m =
     let e : y ≡ Some t.entries = t.added ∙ ap (λ (z : List (Entry Start)). Some (z ++ t.entries)) h in
     rw e (tells_run start t.entries s r t.run)
 
-module _ (Po P A R : Type 0) (sees : Po → Seen Start) (list : A → Option (List (ShellEnd Po A))) (spare : A → ℕ) (level : ℕ) where
+module _ (Po P A R : Type 0) (sees : Po → Seen Start) (list : A → Option (List (ShellEnd Po A))) (faults : P → ℕ) (spare : A → ℕ) (level : ℕ) where
   running_push : (hs : List (ℕ × Awaited Po P A R)) (x : ℕ × Awaited Po P A R) → running (hs ++ x ∷ []) ≡ running hs + is_running x.1
   running_push hs x =
       let a = sum_by-append (λ (h : ℕ × Awaited Po P A R). is_running h.1) hs (x ∷ []) in
@@ -141,8 +145,8 @@ module _ (Po P A R : Type 0) (sees : Po → Seen Start) (list : A → Option (Li
       let g = sum_by-cons w x ys in omega arith
 
   pub running_shell :
-      (a b : Shell Po P A R) (k : ℕ) (p : OutcomeOf Po P A) → IsPending sees list spare level a k p.job.value → sees b.port ≡ marked (sees a.port) k true
-      → b.name ≡ a.name → b.album ≡ a.album → b.handles.items ≡ a.handles.items ++ (k, Running p) ∷ [] → IsShell sees list spare level b
+      (a b : Shell Po P A R) (k : ℕ) (p : OutcomeOf Po P A) → IsPending sees list faults spare level a k p.job.value → sees b.port ≡ marked (sees a.port) k true
+      → b.name ≡ a.name → b.album ≡ a.album → b.handles.items ≡ a.handles.items ++ (k, Running p) ∷ [] → IsShell sees list faults spare level b
   running_shell a b k p h e name album handles =
       let s = h.before in
       let start = p.job.value.start in
@@ -158,13 +162,13 @@ module _ (Po P A R : Type 0) (sees : Po → Seen Start) (list : A → Option (Li
         low = h.low;
         room = rw (album, handles) (let r = running_push a.handles.items x in let r' = h.room in omega arith);
         fits = rw (album, handles)
-            (fits_begun Po P A R sees list level s t (list a.album) a.handles.items start k Begun SaysBegun m.0 m.1 m.2 m.3 next h.fits
+            (fits_begun Po P A R sees list faults level s t (list a.album) a.handles.items start k Begun SaysBegun m.0 m.1 m.2 m.3 next h.fits
             p refl refl h.can h.job_name h.job_origin h.job_level refl);
       }
 
   new_end : (s : Seen Start) (k : ℕ) (job : Forked Po P A) (e : ShellEnd Po A) → CanRun sees list job → job.name ≡ s.name ++ k ∷ [] → from (sees job.port) ≡ from s
       → e.name ≡ job.name → e.stop ≡ IsUnrun → e.status ≡ 254 → e.album ≡ job.album → sees e.port ≡ ended (sees job.port)
-      → NewEnd Po P A R sees list level s k job.start e
+      → NewEnd Po P A R sees list faults level s k job.start e
   new_end s k job e can name origin is_name stop status album port =
       record {
         name = is_name ∙ name;
@@ -172,8 +176,8 @@ module _ (Po P A R : Type 0) (sees : Po → Seen Start) (list : A → Option (Li
         port_name = ap (λ (z : Seen Start). z.name) port ∙ (can.name ∙ sym is_name);
         origin = ap (λ (z : Seen Start). from z) port ∙ origin;
         run = rw (stop, status, ap (λ (z : Seen Start). z.done) port) (still (sees job.port).done can.done);
-        family = family_done Po P A R sees list level (ended (sees job.port)) (list job.album) [] e (ap list album) port (λ j. refl)
-            (fits_ended Po P A R sees list level (sees job.port) (list job.album) [] (fits_first Po P A R sees list level job can));
+        family = family_done Po P A R sees list faults level (ended (sees job.port)) (list job.album) [] e (ap list album) port (λ j. refl)
+            (fits_ended Po P A R sees list faults level (sees job.port) (list job.album) [] (fits_first Po P A R sees list faults level job can));
       }
     where
       still : (d : Option (List (Entry Start))) → ForTold d (λ es. es ≡ []) → RunTold job.start d IsUnrun 254
@@ -181,11 +185,11 @@ module _ (Po P A R : Type 0) (sees : Po → Seen Start) (list : A → Option (Li
       still (Some es) h = (h, refl)
 
   pub unrun_shell :
-      (a b : Shell Po P A R) (k : ℕ) (job : Forked Po P A) (e : ShellEnd Po A) → IsPending sees list spare level a k job → sees b.port ≡ marked (sees a.port) k false
+      (a b : Shell Po P A R) (k : ℕ) (job : Forked Po P A) (e : ShellEnd Po A) → IsPending sees list faults spare level a k job → sees b.port ≡ marked (sees a.port) k false
       → b.name ≡ a.name → b.handles ≡ a.handles → list b.album ≡ with (list a.album) e → spare a.album ≤ spare b.album + 1
-      → e.name ≡ job.name → e.stop ≡ IsUnrun → e.status ≡ 254 → e.album ≡ job.album → sees e.port ≡ ended (sees job.port)
-      → IsShell sees list spare level b
-  unrun_shell a b k job e h eq' name handles album room is_name stop status is_album port =
+      → e.name ≡ job.name → e.stop ≡ IsUnrun → e.status ≡ 254 → e.album ≡ job.album → sees e.port ≡ ended (sees job.port) → (p : P) × (0 < faults p)
+      → IsShell sees list faults spare level b
+  unrun_shell a b k job e h eq' name handles album room is_name stop status is_album port fault =
       let s = h.before in
       let start = job.start in
       let t = sees b.port in
@@ -199,14 +203,14 @@ module _ (Po P A R : Type 0) (sees : Po → Seen Start) (list : A → Option (Li
         low = h.low;
         room = rw handles (let r' = h.room in omega arith);
         fits = rw (album, handles)
-            (fits_unrun Po P A R sees list level s t (list a.album) a.handles.items start k Unrun NoThread m.0 m.1 m.2 m.3 next h.fits
-            e refl refl stop (new_end s k job e h.can h.job_name h.job_origin is_name stop status is_album port));
+            (fits_unrun Po P A R sees list faults level s t (list a.album) a.handles.items start k Unrun NoThread m.0 m.1 m.2 m.3 next h.fits
+            e refl refl stop fault (new_end s k job e h.can h.job_name h.job_origin is_name stop status is_album port));
       }
 
   pub ran_shell :
-      (a b : Shell Po P A R) (k : ℕ) (job : Forked Po P A) (e : ShellEnd Po A) → IsPending sees list spare level a k job → Runs sees list job e → sees b.port ≡ marked (sees a.port) k true
+      (a b : Shell Po P A R) (k : ℕ) (job : Forked Po P A) (e : ShellEnd Po A) → IsPending sees list faults spare level a k job → Runs sees list faults job e → sees b.port ≡ marked (sees a.port) k true
       → b.name ≡ a.name → b.handles.items ≡ a.handles.items ++ (k, Joined e.status) ∷ [] → list b.album ≡ with (list a.album) e → spare a.album ≤ spare b.album + 1
-      → IsShell sees list spare level b
+      → IsShell sees list faults spare level b
   ran_shell a b k job e h r eq' name handles album room =
       let s = h.before in
       let start = job.start in
@@ -222,7 +226,7 @@ module _ (Po P A R : Type 0) (sees : Po → Seen Start) (list : A → Option (Li
         low = h.low;
         room = rw handles (let q = running_push a.handles.items x in let r' = h.room in omega arith);
         fits = rw (album, handles)
-            (fits_ran Po P A R sees list level s t (list a.album) a.handles.items start k Begun SaysBegun m.0 m.1 m.2 m.3 next h.fits
+            (fits_ran Po P A R sees list faults level s t (list a.album) a.handles.items start k Begun SaysBegun m.0 m.1 m.2 m.3 next h.fits
             e refl refl r.ran
             (record { name = r.name ∙ h.job_name; over = r.over; port_name = r.port_name ∙ sym r.name; origin = r.origin ∙ h.job_origin; run = r.run; family = r.family }));
       }
@@ -247,46 +251,45 @@ module _ (Po P A R : Type 0) (sees : Po → Seen Start) (list : A → Option (Li
           let r = no_threads_more (sees a.port).done (Begin k) NoThread refl in
           (r.0, r.1, elim r.2 [ inl z ↦ omega arith | inr z ↦ omega arith ])
 
-  module _ (faults : P → ℕ) where
-    -- a start and what is noted of it
-    pub stays_noted :
-        (a c b : Shell Po P A R) (m : ℕ) → sees c.port ≡ sees a.port → c.name ≡ a.name → Noted sees m c b
-        → RoseBy m (faults a.spawner) (faults c.spawner) → Stays sees faults a b
-    stays_noted a c b m port name n r =
-        record {
-          name = n.name ∙ name;
-          port_name = n.port_name ∙ ap (λ (z : Seen Start). z.name) port;
-          origin = n.origin ∙ ap (λ (z : Seen Start). from z) port;
-          rise = (n.count.0, rw (← port) n.count.1, rw n.spawner (rose_less m n.count.0 (faults a.spawner) (faults c.spawner) n.count.2 r));
-        }
+  -- a start and what is noted of it
+  pub stays_noted :
+      (a c b : Shell Po P A R) (m : ℕ) → sees c.port ≡ sees a.port → c.name ≡ a.name → Noted sees m c b
+      → RoseBy m (faults a.spawner) (faults c.spawner) → Stays sees faults a b
+  stays_noted a c b m port name n r =
+      record {
+        name = n.name ∙ name;
+        port_name = n.port_name ∙ ap (λ (z : Seen Start). z.name) port;
+        origin = n.origin ∙ ap (λ (z : Seen Start). from z) port;
+        rise = (n.count.0, rw (← port) n.count.1, rw n.spawner (rose_less m n.count.0 (faults a.spawner) (faults c.spawner) n.count.2 r));
+      }
 
-    pub stays_join : (a b c : Shell Po P A R) → Stays sees faults a b → Stays sees faults b c → Stays sees faults a c
-    stays_join a b c x y =
-        record {
-          name = y.name ∙ x.name;
-          port_name = y.port_name ∙ x.port_name;
-          origin = y.origin ∙ x.origin;
-          rise = (x.rise.0 + y.rise.0, (let p = x.rise.1 in let q = y.rise.1 in omega arith), rose_join x.rise.0 y.rise.0 (faults a.spawner) (faults b.spawner) (faults c.spawner) x.rise.2 y.rise.2);
-        }
+  pub stays_join : (a b c : Shell Po P A R) → Stays sees faults a b → Stays sees faults b c → Stays sees faults a c
+  stays_join a b c x y =
+      record {
+        name = y.name ∙ x.name;
+        port_name = y.port_name ∙ x.port_name;
+        origin = y.origin ∙ x.origin;
+        rise = (x.rise.0 + y.rise.0, (let p = x.rise.1 in let q = y.rise.1 in omega arith), rose_join x.rise.0 y.rise.0 (faults a.spawner) (faults b.spawner) (faults c.spawner) x.rise.2 y.rise.2);
+      }
 
-    -- a step that notes no start
-    pub stays_quiet :
-        (a b : Shell Po P A R) (t : Seen Start) → b.name ≡ a.name → sees b.port ≡ t → t.name ≡ (sees a.port).name → from t ≡ from (sees a.port)
-        → no_threads t.done ≡ no_threads (sees a.port).done → faults b.spawner ≡ faults a.spawner
-        → Stays sees faults a b
-    stays_quiet a b t name port pn po count f =
-        record {
-          name = name;
-          port_name = rw port pn;
-          origin = rw port po;
-          rise = (0, rw port (omega arith), rw f (rose_none (faults a.spawner) (faults a.spawner) (omega arith)));
-        }
+  -- a step that notes no start
+  pub stays_quiet :
+      (a b : Shell Po P A R) (t : Seen Start) → b.name ≡ a.name → sees b.port ≡ t → t.name ≡ (sees a.port).name → from t ≡ from (sees a.port)
+      → no_threads t.done ≡ no_threads (sees a.port).done → faults b.spawner ≡ faults a.spawner
+      → Stays sees faults a b
+  stays_quiet a b t name port pn po count f =
+      record {
+        name = name;
+        port_name = rw port pn;
+        origin = rw port po;
+        rise = (0, rw port (omega arith), rw f (rose_none (faults a.spawner) (faults a.spawner) (omega arith)));
+      }
 
   -- a step that changes the port and nothing else that a shell keeps
   pub same_shell :
-      (a b : Shell Po P A R) (t : Seen Start) → IsShell sees list spare level a → b.name ≡ a.name → sees b.port ≡ t → t.live ≡ true → t.name ≡ (sees a.port).name
+      (a b : Shell Po P A R) (t : Seen Start) → IsShell sees list faults spare level a → b.name ≡ a.name → sees b.port ≡ t → t.live ≡ true → t.name ≡ (sees a.port).name
       → NoneMade t.children → b.handles.items ≡ a.handles.items → list b.album ≡ list a.album → spare a.album ≤ spare b.album
-      → Fits sees list level t (list a.album) a.handles.items → IsShell sees list spare level b
+      → Fits sees list faults level t (list a.album) a.handles.items → IsShell sees list faults spare level b
   same_shell a b t h name port live pn none handles album room fits =
       record {
         live = rw port live;
@@ -309,12 +312,12 @@ module _ (Po P A R : Type 0) (sees : Po → Seen Start) (list : A → Option (Li
       one (Joined v) = omega arith
 
   pub pending_shell :
-      (o a : Shell Po P A R) (k : ℕ) (job : Forked Po P A) → IsShell sees list spare level o → level < 64 → vec_len o.handles < vec_capacity o.handles → vec_len o.handles < spare o.album
+      (o a : Shell Po P A R) (k : ℕ) (job : Forked Po P A) → IsShell sees list faults spare level o → level < 64 → vec_len o.handles < vec_capacity o.handles → vec_len o.handles < spare o.album
       → length o.handles.items ≡ vec_len o.handles
       → sees a.port ≡ forked (sees o.port) job.start standard → k ≡ length (sees o.port).children + 1 → sees job.port ≡ child_of (sees o.port) k → job.name ≡ o.name ++ k ∷ []
       → list job.album ≡ emptied_list (list o.album) → job.start.state.level ≡ level + 1 → job.start.state.budget < 2 ^ 64
       → a.name ≡ o.name → a.album ≡ o.album → a.handles ≡ o.handles
-      → IsPending sees list spare level a k job
+      → IsPending sees list faults spare level a k job
   pending_shell o a k job h low handle room len port next child is_name fresh deeper budget name album handles =
       record {
         before = sees o.port;
@@ -351,11 +354,11 @@ module _ (Po P A R : Type 0) (sees : Po → Seen Start) (list : A → Option (Li
 
   -- the world answered a call
   pub acted_shell :
-      (a b : Shell Po P A R) (c : Call) (x : Answer) → IsShell sees list spare level a → sees b.port ≡ acted (sees a.port) c x → b.name ≡ a.name → b.handles ≡ a.handles → b.album ≡ a.album
-      → IsShell sees list spare level b
+      (a b : Shell Po P A R) (c : Call) (x : Answer) → IsShell sees list faults spare level a → sees b.port ≡ acted (sees a.port) c x → b.name ≡ a.name → b.handles ≡ a.handles → b.album ≡ a.album
+      → IsShell sees list faults spare level b
   acted_shell a b c x h port name handles album =
       same_shell a b (acted (sees a.port) c x) h name port h.live refl h.none_made (ap (λ (z : Vec (ℕ × Awaited Po P A R) Global). z.items) handles) (ap list album) (rw album (omega arith))
-      (fits_noted Po P A R sees list level (sees a.port) (list a.album) a.handles.items (Asked c) x (λ k q. cc) h.fits)
+      (fits_noted Po P A R sees list faults level (sees a.port) (list a.album) a.handles.items (Asked c) x (λ k q. cc) (λ k q. cc) (λ k. refl) tt h.fits)
 
   -- the entry of the last child is the one that was found
   pub last_at : (hs : List (ℕ × Awaited Po P A R)) (k j i : ℕ) → IsLast hs k → i ≡ length hs - 1 → IsAt hs i j → j ≡ k
@@ -367,12 +370,12 @@ module _ (Po P A R : Type 0) (sees : Po → Seen Start) (list : A → Option (Li
 
   -- the end of a shell that has joined its children
   pub runs_shell :
-      (faults : P → ℕ) (job : Forked Po P A) (a b : Shell Po P A R) (port : Po) (hs : List (ℕ × Awaited Po P A R)) (e : ShellEnd Po A) (state : ShellState) (r : Result Flow Stop)
+      (job : Forked Po P A) (a b : Shell Po P A R) (port : Po) (hs : List (ℕ × Awaited Po P A R)) (e : ShellEnd Po A) (state : ShellState) (r : Result Flow Stop)
       → CanRun sees list job → a.port ≡ job.port → a.name ≡ job.name → Stays sees faults a b → sees port ≡ ended (sees b.port)
-      → Fits sees list level (sees port) (list e.album) hs → running hs ≡ 0 → e.port ≡ port → e.name ≡ b.name
+      → Fits sees list faults level (sees port) (list e.album) hs → running hs ≡ 0 → e.port ≡ port → e.name ≡ b.name
       → Means job.start.state.budget (sees a.port).done (sees b.port).done (λ n. list_of (work n) job.start.body job.start.state) (finishes state r)
-      → e.stop ≡ stop_by r → e.status ≡ status_by r state.status → Runs sees list job e
-  runs_shell faults job a b port hs e state r can is_port is_name stays over fits idle e_port e_name means stop status =
+      → e.stop ≡ stop_by r → e.status ≡ status_by r state.status → Runs sees list faults job e
+  runs_shell job a b port hs e state r can is_port is_name stays over fits idle e_port e_name means stop status =
       let p : sees e.port ≡ ended (sees b.port) = ap sees e_port ∙ over in
       let d : ForTold (sees a.port).done (λ es. es ≡ []) = rw is_port can.done in
       record {
@@ -385,13 +388,13 @@ module _ (Po P A R : Type 0) (sees : Po → Seen Start) (list : A → Option (Li
         spent = λ h. status ∙ by_spent r state.status (sym stop ∙ h);
         lost = λ h. status ∙ by_lost r state.status (sym stop ∙ h);
         run = rw (stop, status, ap (λ (z : Seen Start). z.done) p) (run_told job.start (sees a.port).done (sees b.port).done state r d means);
-        family = family_done Po P A R sees list level (sees port) (list e.album) hs e refl (ap sees e_port)
-            (λ k. let r = running_le Po P A R sees list level hs k in omega arith) fits;
+        family = family_done Po P A R sees list faults level (sees port) (list e.album) hs e refl (ap sees e_port)
+            (λ k. let r = running_le Po P A R sees list faults level hs k in omega arith) fits;
       }
 
   -- a shell that has just begun
   pub open_shell : (job : Forked Po P A) (a : Shell Po P A R) → CanRun sees list job → a.port ≡ job.port → a.name ≡ job.name → job.start.state.level ≡ level → a.album ≡ job.album → a.handles.items ≡ []
-      → IsShell sees list spare level a
+      → IsShell sees list faults spare level a
   open_shell job a can port name same album handles =
       record {
         live = rw port can.live;
@@ -399,17 +402,17 @@ module _ (Po P A R : Type 0) (sees : Po → Seen Start) (list : A → Option (Li
         none_made = λ k pos le is. (let l : length (sees a.port).children ≡ 0 = rw (port, can.children) refl in omega arith);
         low = rw same at can.level;
         room = rw handles (omega arith);
-        fits = rw (port, album, handles) (fits_first Po P A R sees list level job can);
+        fits = rw (port, album, handles) (fits_first Po P A R sees list faults level job can);
       }
 
   -- the last child was waited for
   pub waited_shell :
-      (a b : Shell Po P A R) (hs : List (ℕ × Awaited Po P A R)) (k v : ℕ) → IsShell sees list spare level a → a.handles.items ≡ hs ++ (k, Joined v) ∷ [] → sees b.port ≡ waited_for (sees a.port) k v
-      → b.name ≡ a.name → b.album ≡ a.album → b.handles.items ≡ hs → IsShell sees list spare level b
+      (a b : Shell Po P A R) (hs : List (ℕ × Awaited Po P A R)) (k v : ℕ) → IsShell sees list faults spare level a → a.handles.items ≡ hs ++ (k, Joined v) ∷ [] → sees b.port ≡ waited_for (sees a.port) k v
+      → b.name ≡ a.name → b.album ≡ a.album → b.handles.items ≡ hs → IsShell sees list faults spare level b
   waited_shell a b hs k v h last port name album handles =
       let x : ℕ × Awaited Po P A R = (k, Joined v) in
-      let f : Fits sees list level (sees a.port) (list a.album) (hs ++ x ∷ []) = rw last at h.fits in
-      let g = fits_waited Po P A R sees list level (sees a.port) (waited_for (sees a.port) k v) (list a.album) hs [] k v refl f in
+      let f : Fits sees list faults level (sees a.port) (list a.album) (hs ++ x ∷ []) = rw last at h.fits in
+      let g = fits_waited Po P A R sees list faults level (sees a.port) (waited_for (sees a.port) k v) (list a.album) hs [] k v refl f in
       record {
         live = rw port h.live;
         name = rw port (h.name ∙ sym name);
@@ -419,7 +422,7 @@ module _ (Po P A R : Type 0) (sees : Po → Seen Start) (list : A → Option (Li
         fits = rw (port, album, handles) (rw append-nil at g);
       }
 
-  pub last_begun : (a : Shell Po P A R) (hs : List (ℕ × Awaited Po P A R)) (k v : ℕ) → IsShell sees list spare level a → a.handles.items ≡ hs ++ (k, Joined v) ∷ [] → IsIn (sees a.port).children k Begun
+  pub last_begun : (a : Shell Po P A R) (hs : List (ℕ × Awaited Po P A R)) (k v : ℕ) → IsShell sees list faults spare level a → a.handles.items ≡ hs ++ (k, Joined v) ∷ [] → IsIn (sees a.port).children k Begun
   last_begun a hs k v h last =
       let x : ℕ × Awaited Po P A R = (k, Joined v) in
       let e = h.fits.entries k in
@@ -432,7 +435,7 @@ module _ (Po P A R : Type 0) (sees : Po → Seen Start) (list : A → Option (Li
   -- an entry is taken out, and what became of it put last
   pub fits_moved :
       (s : Seen Start) (ends : Option (List (ShellEnd Po A))) (xs ys : List (ℕ × Awaited Po P A R)) (x : ℕ × Awaited Po P A R)
-      → Fits sees list level s ends (xs ++ x ∷ ys) → Fits sees list level s ends ((xs ++ ys) ++ x ∷ [])
+      → Fits sees list faults level s ends (xs ++ x ∷ ys) → Fits sees list faults level s ends ((xs ++ ys) ++ x ∷ [])
   fits_moved s ends xs ys x f =
       let same : (w : ℕ × Awaited Po P A R → ℕ) → sum_by w ((xs ++ ys) ++ x ∷ []) ≡ sum_by w (xs ++ x ∷ ys) = λ w.
       (let a = sum_by-append w (xs ++ ys) (x ∷ []) in
@@ -446,6 +449,9 @@ module _ (Po P A R : Type 0) (sees : Po → Seen Start) (list : A → Option (Li
         kept = told_weaker (IsKept (xs ++ x ∷ ys) s) (IsKept ((xs ++ ys) ++ x ∷ []) s) ends (λ es h j. let a = same (running_of j) in let b = h j in omega arith) f.kept;
         waits = All-push (λ h. WaitFits sees list level s ends h.0 h.1) (xs ++ ys) x (All-append (λ h. WaitFits sees list level s ends h.0 h.1) xs ys parts.0 parts.2) parts.1;
         each = f.each;
+        starts = f.starts;
+        forks = f.forks;
+        begins = f.begins;
         known = f.known;
       }
 
@@ -455,8 +461,8 @@ module _ (Po P A R : Type 0) (sees : Po → Seen Start) (list : A → Option (Li
 
   -- an entry that was joined before
   pub settled_joined :
-      (s : Seen Start) (album : A) (hs xs ys : List (ℕ × Awaited Po P A R)) (k v : ℕ) → hs ≡ xs ++ ys → IsJoining sees list spare level s album (xs ++ (k, Joined v) ∷ ys)
-      → IsJoining sees list spare level s album (hs ++ (k, Joined v) ∷ [])
+      (s : Seen Start) (album : A) (hs xs ys : List (ℕ × Awaited Po P A R)) (k v : ℕ) → hs ≡ xs ++ ys → IsJoining sees list faults spare level s album (xs ++ (k, Joined v) ∷ ys)
+      → IsJoining sees list faults spare level s album (hs ++ (k, Joined v) ∷ [])
   settled_joined s album hs xs ys k v is j =
       let x : ℕ × Awaited Po P A R = (k, Joined v) in
       record {
@@ -467,18 +473,18 @@ module _ (Po P A R : Type 0) (sees : Po → Seen Start) (list : A → Option (Li
   -- an entry that ran, with its end
   pub settled_running :
       (s : Seen Start) (old new : A) (hs xs ys : List (ℕ × Awaited Po P A R)) (k : ℕ) (p : OutcomeOf Po P A) (e : ShellEnd Po A) → hs ≡ xs ++ ys
-      → IsJoining sees list spare level s old (xs ++ (k, Running p) ∷ ys) → Runs sees list p.job.value e → list new ≡ with (list old) e → spare old ≤ spare new + 1
-      → IsJoining sees list spare level s new (hs ++ (k, Joined e.status) ∷ [])
+      → IsJoining sees list faults spare level s old (xs ++ (k, Running p) ∷ ys) → Runs sees list faults p.job.value e → list new ≡ with (list old) e → spare old ≤ spare new + 1
+      → IsJoining sees list faults spare level s new (hs ++ (k, Joined e.status) ∷ [])
   settled_running s old new hs xs ys k p e is j ran kept left =
       let x : ℕ × Awaited Po P A R = (k, Running p) in
       let y : ℕ × Awaited Po P A R = (k, Joined e.status) in
       record {
         room = rw is (let a = j.room in let b = running_moved xs ys x in let c = running_push (xs ++ ys) x in let d = running_push (xs ++ ys) y in omega arith);
-        fits = rw (is, kept) (fits_joined Po P A R sees list level s (list old) xs ys k p e ran j.fits);
+        fits = rw (is, kept) (fits_joined Po P A R sees list faults level s (list old) xs ys k p e ran j.fits);
       }
 
   pub can_join :
-      (s : Seen Start) (album : A) (xs ys : List (ℕ × Awaited Po P A R)) (k : ℕ) (p : OutcomeOf Po P A) → IsJoining sees list spare level s album (xs ++ (k, Running p) ∷ ys)
+      (s : Seen Start) (album : A) (xs ys : List (ℕ × Awaited Po P A R)) (k : ℕ) (p : OutcomeOf Po P A) → IsJoining sees list faults spare level s album (xs ++ (k, Running p) ∷ ys)
       → CanRun sees list p.job.value × (p.job.value.start.state.level ≡ level + 1)
   can_join s album xs ys k p j =
       let x : ℕ × Awaited Po P A R = (k, Running p) in
@@ -486,16 +492,16 @@ module _ (Po P A R : Type 0) (sees : Po → Seen Start) (list : A → Option (Li
 
   -- a fork that was refused
   pub given_back :
-      (faults : P → ℕ) (o a : Shell Po P A R) (start : Start) (e : ForkRefused Start) → IsShell sees list spare level o → GivesBack (sees o.port) start standard (sees a.port) e
-      → a.name ≡ o.name → a.handles ≡ o.handles → a.album ≡ o.album → a.spawner ≡ o.spawner → IsShell sees list spare level a × Stays sees faults o a
-  given_back faults o a start (WantsMemory s) h b name handles album spawner = (
+      (o a : Shell Po P A R) (start : Start) (e : ForkRefused Start) → IsShell sees list faults spare level o → GivesBack (sees o.port) start standard (sees a.port) e
+      → a.name ≡ o.name → a.handles ≡ o.handles → a.album ≡ o.album → a.spawner ≡ o.spawner → IsShell sees list faults spare level a × Stays sees faults o a
+  given_back o a start (WantsMemory s) h b name handles album spawner = (
     same_shell o a (sees o.port) h name b.1 h.live refl h.none_made (ap (λ (z : Vec (ℕ × Awaited Po P A R) Global). z.items) handles) (ap list album) (rw album (omega arith)) h.fits,
-    stays_quiet faults o a (sees o.port) name b.1 refl refl refl (ap faults spawner),
+    stays_quiet o a (sees o.port) name b.1 refl refl refl (ap faults spawner),
   )
-  given_back faults o a start (IsRefused why s) h b name handles album spawner = (
+  given_back o a start (IsRefused why s) h b name handles album spawner = (
     same_shell o a (not_forked (sees o.port) start standard why) h name b.1 h.live refl h.none_made (ap (λ (z : Vec (ℕ × Awaited Po P A R) Global). z.items) handles) (ap list album) (rw album (omega arith))
-        (fits_noted Po P A R sees list level (sees o.port) (list o.album) o.handles.items (Fork start standard) (Refused why) (λ k q. cc) h.fits),
-    stays_quiet faults o a (not_forked (sees o.port) start standard why) name b.1 refl (from_more (sees o.port).origin (sees o.port).done (Fork start standard) (Refused why))
+        (fits_noted Po P A R sees list faults level (sees o.port) (list o.album) o.handles.items (Fork start standard) (Refused why) (λ k q. cc) (λ k q. cc) (λ k. refl) tt h.fits),
+    stays_quiet o a (not_forked (sees o.port) start standard why) name b.1 refl (from_more (sees o.port).origin (sees o.port).done (Fork start standard) (Refused why))
         (no_threads_same (sees o.port).done (Fork start standard) (Refused why) refl) (ap faults spawner),
   )
 
@@ -532,9 +538,9 @@ module _ (Po P A R : Type 0) (sees : Po → Seen Start) (list : A → Option (Li
 
   pub taken :
       (sh : Shell Po P A R) (hs : List (ℕ × Awaited Po P A R)) (i : ℕ) (x : ℕ × Awaited Po P A R) → i < length hs → x ≡ get_or hs i x → sh.handles.items ≡ remove hs i
-      → IsJoining sees list spare level (sees sh.port) sh.album hs → IsTaken sees list spare level sh x.0 x.1
+      → IsJoining sees list faults spare level (sees sh.port) sh.album hs → IsTaken sees list faults spare level sh x.0 x.1
   taken sh hs i x lt is left j =
-      let Q : List (ℕ × Awaited Po P A R) → Type 0 = λ z. IsJoining sees list spare level (sees sh.port) sh.album z in
+      let Q : List (ℕ × Awaited Po P A R) → Type 0 = λ z. IsJoining sees list faults spare level (sees sh.port) sh.album z in
       record { front = take i hs; back = drop (suc i) hs; rest = left; joining = subst Q (taken_at hs i x lt is) j }
 
   pub keep_room : (xs ys : List (ℕ × Awaited Po P A R)) (k : ℕ) (p : OutcomeOf Po P A) (m : ℕ) → running (xs ++ (k, Running p) ∷ ys) ≤ m → 0 < m
@@ -546,7 +552,7 @@ module _ (Po P A R : Type 0) (sees : Po → Seen Start) (list : A → Option (Li
   -- the same shell with another spawner
   pub pending_again :
       (a b : Shell Po P A R) (k : ℕ) (job : Forked Po P A) → b.name ≡ a.name → b.port ≡ a.port → b.album ≡ a.album → b.handles ≡ a.handles
-      → IsPending sees list spare level a k job → IsPending sees list spare level b k job
+      → IsPending sees list faults spare level a k job → IsPending sees list faults spare level b k job
   pending_again a b k job name port album handles h =
       record {
         before = h.before;

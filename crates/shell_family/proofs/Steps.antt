@@ -15,7 +15,7 @@ use Rattle.kernel_ask.specs.declared.ask.Phase.TheVariants.{Made, Begun, Unrun, 
 use Rattle.shell_thread.specs.Kept.{with}
 use Rattle.shell_thread.specs.declared.album.ShellEnd.{ShellEnd}
 use Rattle.shell_thread.specs.declared.album.ShellStop.TheVariants.{Unrun as IsUnrun}
-use Rattle.shell_family.specs.Told.{from, ForTold, Has, Saw, at_child, is_begun, is_settled, is_unrun, is_waited}
+use Rattle.shell_family.specs.Told.{from, ForTold, Has, Saw, Only, Follows, ForksStart, fork_of, forks_in, at_child, is_begun, is_settled, is_unrun, is_waited}
 use Rattle.shell_family.specs.Meaning.{RunTold}
 use Rattle.shell_family.specs.Family.{number, named, ChildFits, Family, FamilyTo, CanRun, Runs}
 use Rattle.shell_family.specs.Fits.{Fits, IsKept, IsEach, JobFits, WaitFits, entry_of, running_of, running, is_running}
@@ -24,18 +24,28 @@ use Rattle.shell_family.specs.declared.forked.Forked.{Forked}
 use Rattle.shell_family.specs.declared.forked.OutcomeOf.{OutcomeOf}
 use Rattle.shell_family.specs.declared.forked.Awaited.{Awaited}
 use Rattle.shell_family.specs.declared.forked.Awaited.TheVariants.{Running, Joined}
-use Rattle.shell_family.proofs.Counts.{same_or_not, cond_same, cond_other, cond_zero, at_past, at_end, at_set, at_le, begun_le, settled_le, waited_le, not_new, set_end, last_is, begun_others, begun_at}
-use Rattle.shell_family.proofs.Told.{from_more, from_emptied, has_more, has_last, saw_more, told_with, told_weaker, all_parts}
+use Rattle.shell_family.proofs.Counts.{same_or_not, cond_same, cond_other, cond_zero, at_past, at_end, at_set, at_le, begun_le, settled_le, waited_le, not_new, set_end, last_is, begun_others, begun_at, waited_settled}
+use Rattle.shell_family.proofs.Told.{from_more, from_emptied, has_more, has_last, has_saw, saw_more, starts_more, starts_forked, forks_same, forks_forked, told_with, told_weaker, all_parts}
 
-module _ (Po P A R : Type 0) (sees : Po → Seen Start) (list : A → Option (List (ShellEnd Po A))) (level : ℕ) where
+module _ (Po P A R : Type 0) (sees : Po → Seen Start) (list : A → Option (List (ShellEnd Po A))) (faults : P → ℕ) (level : ℕ) where
+  -- what was begun is begun no more often
+  abbrev pub StartsKept : Seen Start → Seen Start → Type 0
+  StartsKept s t = (j : ℕ) (b a : Answer) → Has s.done (Begin j) b → Saw t.done (Begin j) a → Saw s.done (Begin j) a
+
+  only_step :
+      (s t : Seen Start) (j : ℕ) (b : Answer) → ((a : Ask Start) (b : Answer) → Has s.done a b → Has t.done a b) → StartsKept s t
+      → Only s.done (Begin j) b → Only t.done (Begin j) b
+  only_step s t j b has keeps o = (has _ _ o.0, λ a z. o.1 a (keeps j b a o.0 z))
+
   pub child_step :
       (s t : Seen Start) (c : ShellEnd Po A) → t.name ≡ s.name → from t ≡ from s
       → at_child is_settled t.children (number c) ≡ at_child is_settled s.children (number c)
       → at_child is_unrun t.children (number c) ≡ at_child is_unrun s.children (number c)
       → ((a : Ask Start) (b : Answer) → Has s.done a b → Has t.done a b)
+      → StartsKept s t
       → ((v : ℕ) → Saw t.done (WaitShell (number c)) (ShellEnded v) → v ≡ c.status)
-      → ChildFits sees s c → ChildFits sees t c
-  child_step s t c n o e u has saw f = record {
+      → ChildFits sees faults s c → ChildFits sees faults t c
+  child_step s t c n o e u has keeps saw f = record {
     name = rw n f.name;
     over = f.over;
     port_name = f.port_name;
@@ -43,8 +53,9 @@ module _ (Po P A R : Type 0) (sees : Po → Seen Start) (list : A → Option (Li
     child = e ∙ f.child;
     unrun = λ h. u ∙ f.unrun h;
     ran = λ h. u ∙ f.ran h;
-    no_thread = λ h. has _ _ (f.no_thread h);
-    begun = λ h. has _ _ (f.begun h);
+    no_thread = λ h. only_step s t (number c) NoThread has keeps (f.no_thread h);
+    begun = λ h. only_step s t (number c) SaysBegun has keeps (f.begun h);
+    fault = f.fault;
     run = (f.run.0, has _ _ f.run.1, f.run.2);
     waited = saw;
   }
@@ -64,49 +75,48 @@ module _ (Po P A R : Type 0) (sees : Po → Seen Start) (list : A → Option (Li
   wait_step :
       (s t : Seen Start) (ends : Option (List (ShellEnd Po A))) (k : ℕ) (a : Awaited Po P A R) → t.name ≡ s.name → from t ≡ from s
       → ((a : Ask Start) (b : Answer) → Has s.done a b → Has t.done a b)
+      → StartsKept s t
       → WaitFits sees list level s ends k a → WaitFits sees list level t ends k a
-  wait_step s t ends k (Running p) n o has w = (job_step s t k p.job.value n o has w.0, has _ _ w.1)
-  wait_step s t ends k (Joined v) n o has w = w
+  wait_step s t ends k (Running p) n o has keeps w = (job_step s t k p.job.value n o has w.0, only_step s t k SaysBegun has keeps w.1)
+  wait_step s t ends k (Joined v) n o has keeps w = w
 
   fits_grow :
       (s t : Seen Start) (ends : Option (List (ShellEnd Po A))) (hs : List (ℕ × Awaited Po P A R)) → t.name ≡ s.name → from t ≡ from s
       → ((w : Phase → ℕ) → w Made ≡ 0 → (k : ℕ) → at_child w t.children k ≡ at_child w s.children k)
       → ((a : Ask Start) (b : Answer) → Has s.done a b → Has t.done a b)
       → ((k v : ℕ) → Saw t.done (WaitShell k) (ShellEnded v) → Saw s.done (WaitShell k) (ShellEnded v))
-      → Fits sees list level s ends hs → Fits sees list level t ends hs
-  fits_grow s t ends hs n o same has saw f = record {
+      → ((k : ℕ) (a : Answer) → Saw t.done (Begin k) a → Saw s.done (Begin k) a)
+      → (ForTold s.done ForksStart → ForTold t.done ForksStart)
+      → (ForTold s.done (λ es. (k : ℕ) → forks_in k es ≡ at_child is_settled s.children k) → ForTold t.done (λ es. (k : ℕ) → forks_in k es ≡ at_child is_settled t.children k))
+      → Fits sees list faults level s ends hs → Fits sees list faults level t ends hs
+  fits_grow s t ends hs n o same has saw begins starts forks f = record {
     entries = λ k. f.entries k ∙ sym (same is_begun refl k);
     kept = told_weaker (IsKept hs s) (IsKept hs t) ends (λ es h k. h k ∙ sym (same is_settled refl k)) f.kept;
-    waits = All-weaker (λ h. WaitFits sees list level s ends h.0 h.1) (λ h. WaitFits sees list level t ends h.0 h.1) (λ h w. wait_step s t ends h.0 h.1 n o has w) hs f.waits;
-    each = told_weaker (IsEach sees list s) (IsEach sees list t) ends
-        (λ es. All-weaker (λ c. ChildFits sees s c × Family sees list c) (λ c. ChildFits sees t c × Family sees list c)
-        (λ c p. (child_step s t c n o (same is_settled refl (number c)) (same is_unrun refl (number c)) has (λ v z. p.0.waited v (saw (number c) v z)) p.0, p.1)) es)
+    waits = All-weaker (λ h. WaitFits sees list level s ends h.0 h.1) (λ h. WaitFits sees list level t ends h.0 h.1) (λ h w. wait_step s t ends h.0 h.1 n o has (λ j b a z. begins j a) w) hs f.waits;
+    starts = starts f.starts;
+    forks = forks f.forks;
+    begins = λ k a z. same is_settled refl k ∙ f.begins k a (begins k a z);
+    each = told_weaker (IsEach sees list faults s) (IsEach sees list faults t) ends
+        (λ es. All-weaker (λ c. ChildFits sees faults s c × Family sees list faults c) (λ c. ChildFits sees faults t c × Family sees list faults c)
+        (λ c p. (child_step s t c n o (same is_settled refl (number c)) (same is_unrun refl (number c)) has (λ j b a z. begins j a) (λ v z. p.0.waited v (saw (number c) v z)) p.0, p.1)) es)
         f.each;
     known = λ k v z. same is_waited refl k ∙ f.known k v (saw k v z);
   }
 
   pub fits_ended :
-      (s : Seen Start) (ends : Option (List (ShellEnd Po A))) (hs : List (ℕ × Awaited Po P A R)) → Fits sees list level s ends hs → Fits sees list level (ended s) ends hs
-  fits_ended s ends hs f = fits_grow s (ended s) ends hs refl refl (λ w z k. refl) (λ a b h. h) (λ k v z. z) f
+      (s : Seen Start) (ends : Option (List (ShellEnd Po A))) (hs : List (ℕ × Awaited Po P A R)) → Fits sees list faults level s ends hs → Fits sees list faults level (ended s) ends hs
+  fits_ended s ends hs f = fits_grow s (ended s) ends hs refl refl (λ w z k. refl) (λ a b h. h) (λ k v z. z) (λ k a z. z) (λ h. h) (λ h. h) f
 
-  -- an entry that is no WaitShell
+  -- an entry of no forked child
   pub fits_noted :
       (s : Seen Start) (ends : Option (List (ShellEnd Po A))) (hs : List (ℕ × Awaited Po P A R)) (x : Ask Start) (y : Answer)
-      → ((k : ℕ) → WaitShell k ≡ x → ⊥) → Fits sees list level s ends hs → Fits sees list level record s { done = more s.done x y } ends hs
-  fits_noted s ends hs x y never f =
+      → ((k : ℕ) → WaitShell k ≡ x → ⊥) → ((k : ℕ) → Begin k ≡ x → ⊥) → ((k : ℕ) → fork_of k x y ≡ 0) → Follows x y []
+      → Fits sees list faults level s ends hs → Fits sees list faults level record s { done = more s.done x y } ends hs
+  fits_noted s ends hs x y unwaited unbegun unforked quiet f =
       fits_grow s record s { done = more s.done x y } ends hs refl (from_more s.origin s.done x y) (λ w z k. refl) (λ a b h. has_more s.done a x b y h)
-      (λ k v z. elim (saw_more s.done (WaitShell k) x (ShellEnded v) y z) [ inl p ↦ p | inr e ↦ absurd (never k e.0) ]) f
-
-  pub fits_forked :
-      (s : Seen Start) (ends : Option (List (ShellEnd Po A))) (hs : List (ℕ × Awaited Po P A R)) (start : Start)
-      → Fits sees list level s ends hs → Fits sees list level (forked s start standard) ends hs
-  fits_forked s ends hs start f =
-      fits_grow s (forked s start standard) ends hs refl (from_more s.origin s.done (Fork start standard) (SaysForked (length s.children + 1)))
-      (λ w z k.
-      let a = at_end w s.children Made (suc (length s.children)) k refl in
-      let b : cond (eqb k (suc (length s.children))) (w Made) 0 ≡ 0 = rw z (cond_zero (eqb k (suc (length s.children)))) in omega arith)
-      (λ a b h. has_more s.done a (Fork start standard) b (SaysForked (length s.children + 1)) h)
-      (λ k v z. elim (saw_more s.done (WaitShell k) (Fork start standard) (ShellEnded v) (SaysForked (length s.children + 1)) z) [ inl p ↦ p | inr e ↦ absurd (let h = e.0 in cc) ]) f
+      (λ k v z. elim (saw_more s.done (WaitShell k) x (ShellEnded v) y z) [ inl p ↦ p | inr e ↦ absurd (unwaited k e.0) ])
+      (λ k a z. elim (saw_more s.done (Begin k) x a y z) [ inl p ↦ p | inr e ↦ absurd (unbegun k e.0) ])
+      (starts_more s.done x y quiet) (forks_same s.done s.children s.children x y unforked (λ k. refl)) f
 
   -- the end of a child that is new to its parent
   pub record NewEnd (s : Seen Start) (k : ℕ) (start : Start) (e : ShellEnd Po A) : Type 0 where
@@ -115,7 +125,7 @@ module _ (Po P A R : Type 0) (sees : Po → Seen Start) (list : A → Option (Li
     pub port_name : (sees e.port).name ≡ e.name
     pub origin : from (sees e.port) ≡ from s
     pub run : RunTold start (sees e.port).done e.stop e.status
-    pub family : Family sees list e
+    pub family : Family sees list faults e
 
   pub number_is : (e : ShellEnd Po A) (ns : List ℕ) (k : ℕ) → e.name ≡ ns ++ k ∷ [] → number e ≡ k
   number_is e ns k h = rw h (last_is 0 ns k)
@@ -155,9 +165,25 @@ module _ (Po P A R : Type 0) (sees : Po → Seen Start) (list : A → Option (Li
       (s t : Seen Start) (ends : Option (List (ShellEnd Po A))) (hs : List (ℕ × Awaited Po P A R)) (start : Start) (k : ℕ) (q : Phase) (ans : Answer)
       (n : t.name ≡ s.name) (o : from t ≡ from s) (ch : t.children ≡ s.children ++ q ∷ [])
       (dn : t.done ≡ more (more s.done (Fork start standard) (SaysForked k)) (Begin k) ans)
-      (next : k ≡ suc (length s.children)) (f : Fits sees list level s ends hs) where
+      (next : k ≡ suc (length s.children)) (f : Fits sees list faults level s ends hs) where
     has : (a : Ask Start) (b : Answer) → Has s.done a b → Has t.done a b
     has a b h = rw dn (has_more (more s.done (Fork start standard) (SaysForked k)) a (Begin k) b ans (has_more s.done a (Fork start standard) b (SaysForked k) h))
+
+    saw_begin : (j : ℕ) (a : Answer) → Saw t.done (Begin j) a → Saw s.done (Begin j) a ⊎ ((j ≡ k) × (a ≡ ans))
+    saw_begin j a z =
+        elim (saw_more (more s.done (Fork start standard) (SaysForked k)) (Begin j) (Begin k) a ans (rw dn at z)) [
+          | inl p ↦ elim (saw_more s.done (Begin j) (Fork start standard) a (SaysForked k) p) [ inl r ↦ inl r | inr e ↦ absurd (let h = e.0 in cc) ]
+          | inr e ↦ inr ((let h = e.0 in cc), e.1)
+        ]
+
+    keeps : StartsKept s t
+    keeps j b a h z =
+        elim (saw_begin j a z) [
+          | inl p ↦ p
+          | inr e ↦
+              let g = f.begins j b (has_saw s.done (Fork start standard) (Begin k) (Begin j) (Begin j) (SaysForked k) ans a b (rw dn at z) h) in
+              let n : at_child is_settled s.children j ≡ 0 = at_past is_settled s.children j (let q = e.0 in omega arith) in absurd (omega arith)
+        ]
 
     saw : (j v : ℕ) → Saw t.done (WaitShell j) (ShellEnded v) → Saw s.done (WaitShell j) (ShellEnded v)
     saw j v z =
@@ -179,16 +205,16 @@ module _ (Po P A R : Type 0) (sees : Po → Seen Start) (list : A → Option (Li
     at_old w j apart =
         let a = at w j in let b : cond (eqb j k) (w q) 0 ≡ 0 = cond_other j k (w q) 0 apart in omega arith
 
-    old : (c : ShellEnd Po A) → ChildFits sees s c × Family sees list c → ChildFits sees t c × Family sees list c
+    old : (c : ShellEnd Po A) → ChildFits sees faults s c × Family sees list faults c → ChildFits sees faults t c × Family sees list faults c
     old c p =
         let apart : number c ≢ k = λ h. not_new is_settled s.children (number c) p.0.child (h ∙ next) in
-        (child_step s t c n o (at_old is_settled (number c) apart) (at_old is_unrun (number c) apart) has (λ v z. p.0.waited v (saw (number c) v z)) p.0, p.1)
+        (child_step s t c n o (at_old is_settled (number c) apart) (at_old is_unrun (number c) apart) has keeps (λ v z. p.0.waited v (saw (number c) v z)) p.0, p.1)
 
     none : sum_by (entry_of k) hs ≡ 0
     none = f.entries k ∙ at_past is_begun s.children k (omega arith)
 
     waits : All (λ h. WaitFits sees list level t ends h.0 h.1) hs
-    waits = All-weaker (λ h. WaitFits sees list level s ends h.0 h.1) (λ h. WaitFits sees list level t ends h.0 h.1) (λ h w. wait_step s t ends h.0 h.1 n o has w) hs f.waits
+    waits = All-weaker (λ h. WaitFits sees list level s ends h.0 h.1) (λ h. WaitFits sees list level t ends h.0 h.1) (λ h w. wait_step s t ends h.0 h.1 n o has keeps w) hs f.waits
 
     known : is_waited q ≡ 0 → (j v : ℕ) → Saw t.done (WaitShell j) (ShellEnded v) → at_child is_waited t.children j ≡ 1
     known w j v z =
@@ -199,13 +225,38 @@ module _ (Po P A R : Type 0) (sees : Po → Seen Start) (list : A → Option (Li
     forked_in : Has t.done (Fork start standard) (SaysForked k)
     forked_in = rw dn (has_more (more s.done (Fork start standard) (SaysForked k)) (Fork start standard) (Begin k) (SaysForked k) ans (has_last s.done (Fork start standard) (SaysForked k)))
 
-    begun_in : (b : Answer) → ans ≡ b → Has t.done (Begin k) b
-    begun_in b e = rw (dn, e) (has_last (more s.done (Fork start standard) (SaysForked k)) (Begin k) b)
+    begun_in : (b : Answer) → ans ≡ b → Only t.done (Begin k) b
+    begun_in b e = (
+      rw (dn, e) (has_last (more s.done (Fork start standard) (SaysForked k)) (Begin k) b),
+      λ a z.
+          elim (saw_begin k a z) [
+            | inl p ↦
+                let g = f.begins k a p in
+                let n : at_child is_settled s.children k ≡ 0 = at_past is_settled s.children k (omega arith) in absurd (omega arith)
+            | inr q ↦ q.1 ∙ e
+          ],
+    )
+
+    starts : (ans ≡ SaysBegun) ⊎ (ans ≡ NoThread) → ForTold t.done ForksStart
+    starts says = rw dn (starts_forked s.done start standard k ans says f.starts)
+
+    forks : is_settled q ≡ 1 → ForTold t.done (λ es. (j : ℕ) → forks_in j es ≡ at_child is_settled t.children j)
+    forks w = rw dn (forks_forked s.done s.children t.children start standard k ans (λ j. at is_settled j ∙ (rw w refl)) f.forks)
+
+    begins : is_settled q ≡ 1 → (j : ℕ) (a : Answer) → Saw t.done (Begin j) a → at_child is_settled t.children j ≡ 1
+    begins w j a z =
+        elim (saw_begin j a z) [
+          | inl p ↦
+              let g = f.begins j a p in
+              let b = at is_settled j in
+              let c = at_le is_settled t.children j settled_le in omega arith
+          | inr e ↦ rw e.0 (at_new is_settled ∙ w)
+        ]
 
     new : (e : ShellEnd Po A) → NewEnd s k start e → is_settled q ≡ 1
-        → (e.stop ≡ IsUnrun → (is_unrun q ≡ 1) × (ans ≡ NoThread))
+        → (e.stop ≡ IsUnrun → (is_unrun q ≡ 1) × (ans ≡ NoThread) × ((p : P) × (0 < faults p)))
         → ((e.stop ≡ IsUnrun → ⊥) → (is_unrun q ≡ 0) × (ans ≡ SaysBegun))
-        → ChildFits sees t e × Family sees list e
+        → ChildFits sees faults t e × Family sees list faults e
     new e w settled un ran =
         let m : number e ≡ k = number_is e s.name k w.name in (
           record {
@@ -218,6 +269,7 @@ module _ (Po P A R : Type 0) (sees : Po → Seen Start) (list : A → Option (Li
             ran = λ h. rw m (at_new is_unrun ∙ (ran h).0);
             no_thread = λ h. rw m (begun_in NoThread (un h).1);
             begun = λ h. rw m (begun_in SaysBegun (ran h).1);
+            fault = λ h. (un h).2;
             run = (start, rw m forked_in, w.run);
             waited = λ v z.
                 let a = f.known (number e) v (saw (number e) v z) in
@@ -227,8 +279,10 @@ module _ (Po P A R : Type 0) (sees : Po → Seen Start) (list : A → Option (Li
         )
 
     -- the start handed the job back
-    pub fits_unrun : (e : ShellEnd Po A) → q ≡ Unrun → ans ≡ NoThread → e.stop ≡ IsUnrun → NewEnd s k start e → Fits sees list level t (with ends e) hs
-    fits_unrun e is says stop w =
+    pub fits_unrun :
+        (e : ShellEnd Po A) → q ≡ Unrun → ans ≡ NoThread → e.stop ≡ IsUnrun → (p : P) × (0 < faults p) → NewEnd s k start e
+        → Fits sees list faults level t (with ends e) hs
+    fits_unrun e is says stop fault w =
         let m : number e ≡ k = number_is e s.name k w.name in
         record {
           entries = λ j.
@@ -237,8 +291,11 @@ module _ (Po P A R : Type 0) (sees : Po → Seen Start) (list : A → Option (Li
               let c = f.entries j in omega arith;
           kept = named_with k ends e hs hs s t m (λ j. let a = at is_settled j in let b : is_settled q ≡ 1 = rw is refl in rw (a, b) refl) f.kept;
           waits = joined_with k t ends e hs m none waits;
-          each = told_with (λ c. ChildFits sees s c × Family sees list c) (λ c. ChildFits sees t c × Family sees list c) ends e old
-              (new e w (rw is refl) (λ h. (rw is refl, says)) (λ h. absurd (h stop))) f.each;
+          each = told_with (λ c. ChildFits sees faults s c × Family sees list faults c) (λ c. ChildFits sees faults t c × Family sees list faults c) ends e old
+              (new e w (rw is refl) (λ h. (rw is refl, says, fault)) (λ h. absurd (h stop))) f.each;
+          starts = starts (inr says);
+          forks = forks (rw is refl);
+          begins = begins (rw is refl);
           known = known (rw is refl);
         }
 
@@ -246,8 +303,8 @@ module _ (Po P A R : Type 0) (sees : Po → Seen Start) (list : A → Option (Li
     pub fits_begun :
         (p : OutcomeOf Po P A) → q ≡ Begun → ans ≡ SaysBegun → CanRun sees list p.job.value → p.job.value.name ≡ s.name ++ k ∷ []
         → from (sees p.job.value.port) ≡ from s → p.job.value.start.state.level ≡ level + 1 → p.job.value.start ≡ start
-        → Fits sees list level t ends (hs ++ (k, Running p) ∷ [])
-    fits_begun p is says can name origin level_is starts =
+        → Fits sees list faults level t ends (hs ++ (k, Running p) ∷ [])
+    fits_begun p is says can name origin level_is is_start =
         let x : ℕ × Awaited Po P A R = (k, Running p) in
         record {
           entries = λ j.
@@ -267,16 +324,19 @@ module _ (Po P A R : Type 0) (sees : Po → Seen Start) (list : A → Option (Li
               rw (d, e, a, b) (omega arith))
               f.kept;
           waits = All-push (λ h. WaitFits sees list level t ends h.0 h.1) hs (k, Running p) waits
-              (record { can = can; name = rw n name; origin = origin ∙ sym o; level_is = level_is; forked = rw starts forked_in }, begun_in SaysBegun says);
-          each = told_weaker (IsEach sees list s) (IsEach sees list t) ends
-              (λ es. All-weaker (λ c. ChildFits sees s c × Family sees list c) (λ c. ChildFits sees t c × Family sees list c) old es) f.each;
+              (record { can = can; name = rw n name; origin = origin ∙ sym o; level_is = level_is; forked = rw is_start forked_in }, begun_in SaysBegun says);
+          each = told_weaker (IsEach sees list faults s) (IsEach sees list faults t) ends
+              (λ es. All-weaker (λ c. ChildFits sees faults s c × Family sees list faults c) (λ c. ChildFits sees faults t c × Family sees list faults c) old es) f.each;
+          starts = starts (inl says);
+          forks = forks (rw is refl);
+          begins = begins (rw is refl);
           known = known (rw is refl);
         }
 
     -- the start ran the job, and answers its end
     pub fits_ran :
         (e : ShellEnd Po A) → q ≡ Begun → ans ≡ SaysBegun → (e.stop ≡ IsUnrun → ⊥) → NewEnd s k start e
-        → Fits sees list level t (with ends e) (hs ++ (k, Joined e.status) ∷ [])
+        → Fits sees list faults level t (with ends e) (hs ++ (k, Joined e.status) ∷ [])
     fits_ran e is says stop w =
         let m : number e ≡ k = number_is e s.name k w.name in
         let x : ℕ × Awaited Po P A R = (k, Joined e.status) in
@@ -297,8 +357,11 @@ module _ (Po P A R : Type 0) (sees : Po → Seen Start) (list : A → Option (Li
               let z = cond_zero (eqb j k) in rw (d, g, a, b, z) (omega arith))
               f.kept;
           waits = All-push (λ h. WaitFits sees list level t (with ends e) h.0 h.1) hs (k, Joined e.status) (joined_with k t ends e hs m none waits) (own ends e f.kept);
-          each = told_with (λ c. ChildFits sees s c × Family sees list c) (λ c. ChildFits sees t c × Family sees list c) ends e old
+          each = told_with (λ c. ChildFits sees faults s c × Family sees list faults c) (λ c. ChildFits sees faults t c × Family sees list faults c) ends e old
               (new e w (rw is refl) (λ h. absurd (stop h)) (λ h. (rw is refl, says))) f.each;
+          starts = starts (inl says);
+          forks = forks (rw is refl);
+          begins = begins (rw is refl);
           known = known (rw is refl);
         }
       where
@@ -315,8 +378,8 @@ module _ (Po P A R : Type 0) (sees : Po → Seen Start) (list : A → Option (Li
   -- a job is joined: its entry is changed, and its end is kept
   pub fits_joined :
       (s : Seen Start) (ends : Option (List (ShellEnd Po A))) (xs ys : List (ℕ × Awaited Po P A R)) (k : ℕ) (p : OutcomeOf Po P A) (e : ShellEnd Po A)
-      → Runs sees list p.job.value e → Fits sees list level s ends (xs ++ (k, Running p) ∷ ys)
-      → Fits sees list level s (with ends e) ((xs ++ ys) ++ (k, Joined e.status) ∷ [])
+      → Runs sees list faults p.job.value e → Fits sees list faults level s ends (xs ++ (k, Running p) ∷ ys)
+      → Fits sees list faults level s (with ends e) ((xs ++ ys) ++ (k, Joined e.status) ∷ [])
   fits_joined s ends xs ys k p e ran f =
       let x : ℕ × Awaited Po P A R = (k, Running p) in
       let y : ℕ × Awaited Po P A R = (k, Joined e.status) in
@@ -356,7 +419,7 @@ module _ (Po P A R : Type 0) (sees : Po → Seen Start) (list : A → Option (Li
         waits = All-push (λ h. WaitFits sees list level s (with ends e) h.0 h.1) (xs ++ ys) y
             (joined_with k s ends e (xs ++ ys) m none (All-append (λ h. WaitFits sees list level s ends h.0 h.1) xs ys parts.0 parts.2))
             (own ends f.kept);
-        each = told_with (λ c. ChildFits sees s c × Family sees list c) (λ c. ChildFits sees s c × Family sees list c) ends e (λ c h. h) (
+        each = told_with (λ c. ChildFits sees faults s c × Family sees list faults c) (λ c. ChildFits sees faults s c × Family sees list faults c) ends e (λ c h. h) (
           record {
             name = rw m name;
             over = ran.over;
@@ -367,12 +430,16 @@ module _ (Po P A R : Type 0) (sees : Po → Seen Start) (list : A → Option (Li
             ran = λ h. rw m others.1;
             no_thread = λ h. absurd (ran.ran h);
             begun = λ h. rw m parts.1.1;
+            fault = λ h. absurd (ran.ran h);
             run = (p.job.value.start, rw m job.forked, ran.run);
             waited = λ v z.
                 let a = rw m at (f.known (number e) v z) in let b = others.2 in absurd (omega arith);
           },
           ran.family,
         ) f.each;
+        starts = f.starts;
+        forks = f.forks;
+        begins = f.begins;
         known = f.known;
       }
     where
@@ -390,7 +457,7 @@ module _ (Po P A R : Type 0) (sees : Po → Seen Start) (list : A → Option (Li
   -- a joined child is waited for
   pub fits_waited :
       (s t : Seen Start) (ends : Option (List (ShellEnd Po A))) (xs ys : List (ℕ × Awaited Po P A R)) (k v : ℕ)
-      → t ≡ waited_for s k v → Fits sees list level s ends (xs ++ (k, Joined v) ∷ ys) → Fits sees list level t ends (xs ++ ys)
+      → t ≡ waited_for s k v → Fits sees list faults level s ends (xs ++ (k, Joined v) ∷ ys) → Fits sees list faults level t ends (xs ++ ys)
   fits_waited s t ends xs ys k v is f =
       let x : ℕ × Awaited Po P A R = (k, Joined v) in
       let parts = all_parts (λ h. WaitFits sees list level s ends h.0 h.1) xs x ys f.waits in
@@ -412,6 +479,8 @@ module _ (Po P A R : Type 0) (sees : Po → Seen Start) (list : A → Option (Li
       let same : (w : Phase → ℕ) → w Begun ≡ w Waited → (j : ℕ) → at_child w t.children j ≡ at_child w s.children j = λ w q j.
       (let a = rw q at (at w j) in omega arith) in
       let has : (a : Ask Start) (b : Answer) → Has s.done a b → Has t.done a b = λ a b h. rw dn (has_more s.done a (WaitShell k) b (ShellEnded v) h) in
+      let begins : (j : ℕ) (a : Answer) → Saw t.done (Begin j) a → Saw s.done (Begin j) a = λ j a z.
+      elim (saw_more s.done (Begin j) (WaitShell k) a (ShellEnded v) (rw dn at z)) [ inl p ↦ p | inr e ↦ absurd (let h = e.0 in cc) ] in
       let saw : (j u : ℕ) → Saw t.done (WaitShell j) (ShellEnded u) → Saw s.done (WaitShell j) (ShellEnded u) ⊎ ((j ≡ k) × (u ≡ v)) = λ j u z.
       elim (saw_more s.done (WaitShell j) (WaitShell k) (ShellEnded u) (ShellEnded v) (rw dn at z)) [ inl p ↦ inl p | inr e ↦ inr ((let h = e.0 in cc), (let h = e.1 in cc)) ] in
       record {
@@ -431,9 +500,12 @@ module _ (Po P A R : Type 0) (sees : Po → Seen Start) (list : A → Option (Li
             let g = sum_by-cons (running_of j) x ys in
             let z : running_of j x ≡ 0 = cond_zero (eqb j k) in omega arith)
             f.kept;
-        waits = All-weaker (λ h. WaitFits sees list level s ends h.0 h.1) (λ h. WaitFits sees list level t ends h.0 h.1) (λ h w. wait_step s t ends h.0 h.1 n o has w) (xs ++ ys)
+        waits = All-weaker (λ h. WaitFits sees list level s ends h.0 h.1) (λ h. WaitFits sees list level t ends h.0 h.1) (λ h w. wait_step s t ends h.0 h.1 n o has (λ j b a z. begins j a) w) (xs ++ ys)
             (All-append (λ h. WaitFits sees list level s ends h.0 h.1) xs ys parts.0 parts.2);
-        each = olds ends n o same has saw parts.1 f.each;
+        each = olds ends n o same has begins saw parts.1 f.each;
+        starts = rw dn (starts_more s.done (WaitShell k) (ShellEnded v) tt f.starts);
+        forks = rw dn (forks_same s.done s.children t.children (WaitShell k) (ShellEnded v) (λ j. refl) (same is_settled refl) f.forks);
+        begins = λ j a z. same is_settled refl j ∙ f.begins j a (begins j a z);
         known = λ j u z.
             elim (saw j u z) [
               | inl p ↦
@@ -453,14 +525,15 @@ module _ (Po P A R : Type 0) (sees : Po → Seen Start) (list : A → Option (Li
           (ends : Option (List (ShellEnd Po A))) → t.name ≡ s.name → from t ≡ from s
           → ((w : Phase → ℕ) → w Begun ≡ w Waited → (j : ℕ) → at_child w t.children j ≡ at_child w s.children j)
           → ((a : Ask Start) (b : Answer) → Has s.done a b → Has t.done a b)
+          → ((j : ℕ) (a : Answer) → Saw t.done (Begin j) a → Saw s.done (Begin j) a)
           → ((j u : ℕ) → Saw t.done (WaitShell j) (ShellEnded u) → Saw s.done (WaitShell j) (ShellEnded u) ⊎ ((j ≡ k) × (u ≡ v)))
-          → ForTold ends (λ es. All (λ c. number c ≡ k → c.status ≡ v) es) → ForTold ends (IsEach sees list s) → ForTold ends (IsEach sees list t)
-      olds None n o same has saw j h = tt
-      olds (Some es) n o same has saw j h = λ i d lt.
+          → ForTold ends (λ es. All (λ c. number c ≡ k → c.status ≡ v) es) → ForTold ends (IsEach sees list faults s) → ForTold ends (IsEach sees list faults t)
+      olds None n o same has begins saw j h = tt
+      olds (Some es) n o same has begins saw j h = λ i d lt.
           let c = get_or es i d in
           let p = h i d lt in
           let q = j i d lt in (
-            child_step s t c n o (same is_settled refl (number c)) (same is_unrun refl (number c)) has
+            child_step s t c n o (same is_settled refl (number c)) (same is_unrun refl (number c)) has (λ j b a z. begins j a)
                 (λ u z. elim (saw (number c) u z) [ inl a ↦ p.0.waited u a | inr b ↦ b.1 ∙ sym (q b.0) ]) p.0,
             p.1,
           )
@@ -468,28 +541,35 @@ module _ (Po P A R : Type 0) (sees : Po → Seen Start) (list : A → Option (Li
   -- with nothing left that runs, the shell's end has the end of each child
   pub family_done :
       (s : Seen Start) (ends : Option (List (ShellEnd Po A))) (hs : List (ℕ × Awaited Po P A R)) (e : ShellEnd Po A)
-      → list e.album ≡ ends → sees e.port ≡ s → ((k : ℕ) → sum_by (running_of k) hs ≡ 0) → Fits sees list level s ends hs → Family sees list e
+      → list e.album ≡ ends → sees e.port ≡ s → ((k : ℕ) → sum_by (running_of k) hs ≡ 0) → Fits sees list faults level s ends hs → Family sees list faults e
   family_done s ends hs e album port idle f zero = tt
-  family_done s ends hs e album port idle f (suc n) = rw (album, port) (told ends f.kept f.each)
+  family_done s ends hs e album port idle f (suc n) =
+      rw (album, port) (
+        record { starts = f.starts; forks = f.forks; begins = f.begins; waits = λ k v z. waited_settled s.children k (f.known k v z) },
+        told ends f.kept f.each,
+      )
     where
-      told : (ends : Option (List (ShellEnd Po A))) → ForTold ends (IsKept hs s) → ForTold ends (IsEach sees list s)
-          → ForTold ends (λ es. ((k : ℕ) → sum_by (named k) es ≡ at_child is_settled s.children k) × All (λ c. ChildFits sees s c × FamilyTo sees list n c) es)
+      told : (ends : Option (List (ShellEnd Po A))) → ForTold ends (IsKept hs s) → ForTold ends (IsEach sees list faults s)
+          → ForTold ends (λ es. ((k : ℕ) → sum_by (named k) es ≡ at_child is_settled s.children k) × All (λ c. ChildFits sees faults s c × FamilyTo sees list faults n c) es)
       told None h g = tt
       told (Some es) h g = ((λ k. let a = h k in let b = idle k in omega arith), (λ i d lt. ((g i d lt).0, (g i d lt).1 n)))
 
   -- a shell that has just begun
-  pub fits_first : (job : Forked Po P A) → CanRun sees list job → Fits {P = P} {R = R} sees list level (sees job.port) (list job.album) []
+  pub fits_first : (job : Forked Po P A) → CanRun sees list job → Fits {P = P} {R = R} sees list faults level (sees job.port) (list job.album) []
   fits_first job c = record {
     entries = λ k. rw c.children refl;
     kept = told_weaker (λ es. es ≡ []) (IsKept {P = P} {R = R} [] (sees job.port)) (list job.album) (λ es h k. rw (h, c.children) refl) c.album;
     waits = All-nil (λ h. WaitFits sees list level (sees job.port) (list job.album) h.0 h.1);
-    each = told_weaker (λ es. es ≡ []) (IsEach sees list (sees job.port)) (list job.album) (λ es h. rw h (All-nil (λ x. ChildFits sees (sees job.port) x × Family sees list x))) c.album;
-    known = λ k v z. absurd (unseen (sees job.port).done k v c.done z);
+    each = told_weaker (λ es. es ≡ []) (IsEach sees list faults (sees job.port)) (list job.album) (λ es h. rw h (All-nil (λ x. ChildFits sees faults (sees job.port) x × Family sees list faults x))) c.album;
+    starts = told_weaker (λ es. es ≡ []) ForksStart (sees job.port).done (λ es h. rw h tt) c.done;
+    forks = told_weaker (λ es. es ≡ []) (λ es. (k : ℕ) → forks_in k es ≡ at_child is_settled (sees job.port).children k) (sees job.port).done (λ es h k. rw (h, c.children) refl) c.done;
+    begins = λ k a z. absurd (unseen (sees job.port).done (Begin k) a c.done z);
+    known = λ k v z. absurd (unseen (sees job.port).done (WaitShell k) (ShellEnded v) c.done z);
   }
     where
-      unseen : (d : Option (List (Entry Start))) (k v : ℕ) → ForTold d (λ es. es ≡ []) → Saw d (WaitShell k) (ShellEnded v) → ⊥
-      unseen None k v h z = z
-      unseen (Some es) k v h z = rw h at z
+      unseen : (d : Option (List (Entry Start))) (x : Ask Start) (y : Answer) → ForTold d (λ es. es ≡ []) → Saw d x y → ⊥
+      unseen None x y h z = z
+      unseen (Some es) x y h z = rw h at z
 
   pub running_le : (hs : List (ℕ × Awaited Po P A R)) (k : ℕ) → sum_by (running_of k) hs ≤ running hs
   running_le hs k = sum_by-le-sum_by (running_of k) (λ h. is_running h.1) hs (λ h. one h.0 h.1)

@@ -32,6 +32,46 @@ abbrev pub Saw : {F : Type 0} → Option (List (Entry F)) → Ask F → Answer �
 Saw None ask answer = ⊥
 Saw (Some es) ask answer = In record { ask = ask; answer = answer } es
 
+-- the ask stands in the transcript, where it is told, and has this answer wherever it stands
+abbrev pub Only : {F : Type 0} → Option (List (Entry F)) → Ask F → Answer → Type 0
+Only done ask answer = Has done ask answer × ((a : Answer) → Saw done ask a → a ≡ answer)
+
+-- the next entry is the start of child k
+abbrev pub Starts : {F : Type 0} → ℕ → List (Entry F) → Type 0
+Starts k [] = ⊥
+Starts k (e ∷ es) = (e.ask ≡ Begin k) × ((e.answer ≡ SaysBegun) ⊎ (e.answer ≡ NoThread))
+
+abbrev pub StartsForked : {F : Type 0} → Answer → List (Entry F) → Type 0
+StartsForked (Forked k) es = Starts k es
+StartsForked _ es = Unit {0}
+
+abbrev pub Follows : {F : Type 0} → Ask F → Answer → List (Entry F) → Type 0
+Follows (Fork s keep) answer es = StartsForked answer es
+Follows (Asked c) answer es = Unit {0}
+Follows (Begin k) answer es = Unit {0}
+Follows (WaitShell k) answer es = Unit {0}
+
+-- each entry of a child that was forked is followed at once by its Begin
+abbrev pub ForksStart : {F : Type 0} → List (Entry F) → Type 0
+ForksStart [] = Unit {0}
+ForksStart (e ∷ es) = Follows e.ask e.answer es × ForksStart es
+
+abbrev pub is_fork_of : ℕ → Answer → ℕ
+is_fork_of k (Forked j) = cond (eqb k j) 1 0
+is_fork_of k _ = 0
+
+-- whether it is the entry of the fork of child k
+abbrev pub fork_of : {F : Type 0} → ℕ → Ask F → Answer → ℕ
+fork_of k (Fork s keep) answer = is_fork_of k answer
+fork_of k (Asked c) answer = 0
+fork_of k (Begin j) answer = 0
+fork_of k (WaitShell j) answer = 0
+
+-- how often a transcript says that child k was forked
+abbrev pub forks_in : {F : Type 0} → ℕ → List (Entry F) → ℕ
+forks_in k [] = 0
+forks_in k (e ∷ es) = fork_of k e.ask e.answer + forks_in k es
+
 -- the weight of the phase of child k, 0 where there is none; children count from 1
 abbrev pub at_child : (Phase → ℕ) → List Phase → ℕ → ℕ
 at_child w [] k = 0

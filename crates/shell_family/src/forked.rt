@@ -35,7 +35,7 @@ pub struct OutcomeOf<Po, P, A> {
 impl<Po: Port<Start>, P: Spawner, A: Album<Po>> Promise<Outcome<Po, P, A>> for OutcomeOf<Po, P, A> {
     ghost use Rattle.shell_family.specs.Family.{Keeps};
 
-    ghost kept_by = { λ p r. Keeps Po.sees A.list p.job.value r };
+    ghost kept_by = { λ p r. Keeps Po.sees A.list P.faults p.job.value r };
 }
 
 /// A child that was begun.

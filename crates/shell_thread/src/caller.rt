@@ -1,5 +1,5 @@
 // A spawner that runs each job at once.
-ghost use Rattle.std.specs.Prelude.{false};
+ghost use Rattle.std.specs.Prelude.{◌≡◌, false};
 
 use crate::spawner::{Spawner, Way};
 use ksh_base::Memory;
@@ -13,7 +13,9 @@ pub struct CallerSpawner<R: Threads + Copy> {
 }
 
 impl<R: Threads + Copy> CallerSpawner<R> {
-    pub fn new(rt: R) -> Self {
+    pub fn new(rt: R) -> Self
+        ensures { result.rt ≡ rt }
+    {
         CallerSpawner { rt }
     }
 }

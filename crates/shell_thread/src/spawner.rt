@@ -22,7 +22,10 @@ pub struct Flag {
 }
 
 impl Flag {
-    pub fn new(alloc: Global) -> Result<Flag, Memory> {
+    /// Both ends are of one flag.
+    pub fn new(alloc: Global) -> Result<Flag, Memory>
+        ensures { IfOk result (λ flag. flag.ours.value ≡ flag.theirs.value) }
+    {
         let ours = Arc::new(alloc, AtomicBool::new(true))?;
         let theirs = Arc::try_clone(&ours)?;
         Ok(Flag { ours, theirs })

@@ -4,8 +4,8 @@ use Rattle.cmd_eval.proofs.child.note_running.Goals as goal
 
 pub returns-clause-shell : goal.returns-clause-shell
 returns-clause-shell g c =
-    running_shell _ _ _ _ _ _ _ _ c.args.shell.now _ c.args.child c.args.handle c.requires c.mark.ensures.marks refl refl c.push_reserved.ensures.items
+    running_shell _ _ _ _ _ _ _ _ _ c.args.shell.now _ c.args.child c.args.handle c.requires c.mark.ensures.marks refl refl c.push_reserved.ensures.items
 
 pub returns-clause-noted : goal.returns-clause-noted
 returns-clause-noted g c =
-    noted_shell _ _ _ _ _ g.A.Album.list g.A.Album.spare c.args.level c.args.shell.now _ c.args.child true 0 (omega arith) c.mark.ensures.marks refl refl
+    noted_shell _ _ _ _ _ g.A.Album.list g.P.Spawner.faults g.A.Album.spare c.args.level c.args.shell.now _ c.args.child true 0 (omega arith) c.mark.ensures.marks refl refl

@@ -13,11 +13,11 @@ pub returns-in-Ok-clause-means : goal.returns-in-Ok-clause-means
 returns-in-Ok-clause-means g c = means_asked _ _ _ _ _ _ (rw c.if-not-spend.false at c.spend.ensures.units) _ (ap (λ (z : Seen Start). z.done) c.in-Ok.ensures.ok)
 
 pub returns-in-Ok-clause-shell : goal.returns-in-Ok-clause-shell
-returns-in-Ok-clause-shell g c = acted_shell _ _ _ _ _ _ _ _ _ _ _ _ c.requires c.in-Ok.ensures.ok refl refl refl
+returns-in-Ok-clause-shell g c = acted_shell _ _ _ _ _ _ _ _ _ _ _ _ _ c.requires c.in-Ok.ensures.ok refl refl refl
 
 pub returns-in-Ok-clause-stays : goal.returns-in-Ok-clause-stays
 returns-in-Ok-clause-stays g c =
-    stays_quiet _ _ _ _ _ g.A.Album.list g.A.Album.spare c.args.state.now.level _ _ _ _ refl c.in-Ok.ensures.ok refl (from_more (g.Po.Port.sees c.args.shell.now.port).origin (g.Po.Port.sees c.args.shell.now.port).done _ _)
+    stays_quiet _ _ _ _ _ g.A.Album.list g.P.Spawner.faults g.A.Album.spare c.args.state.now.level _ _ _ refl c.in-Ok.ensures.ok refl (from_more (g.Po.Port.sees c.args.shell.now.port).origin (g.Po.Port.sees c.args.shell.now.port).done _ _)
     (no_threads_same (g.Po.Port.sees c.args.shell.now.port).done _ _ refl) refl
 
 pub returns-in-Err-clause-means : goal.returns-in-Err-clause-means

@@ -62,7 +62,7 @@ decreases-eval_form g l = left l.state.now + 6
 
 abbrev pub invariant-eval_list-loop-item : goal.invariant-eval_list-loop-item
 invariant-eval_list-loop-item g l = record {
-  shell : IsShell g.Po.Port.sees g.A.Album.list g.A.Album.spare l.fn.state.level l.shell;
+  shell : IsShell g.Po.Port.sees g.A.Album.list g.P.Spawner.faults g.A.Album.spare l.fn.state.level l.shell;
   stays : Stays g.Po.Port.sees g.P.Spawner.faults l.initial.shell l.shell;
   level : l.state.level ≡ l.fn.state.level;
   budget : l.state.budget ≤ l.fn.state.budget;
@@ -71,6 +71,6 @@ invariant-eval_list-loop-item g l = record {
 
 abbrev pub invariant-join_all-loop-turn : goal.invariant-join_all-loop-turn
 invariant-join_all-loop-turn g l =
-    IsJoining g.Po.Port.sees g.A.Album.list g.A.Album.spare l.level (g.Po.Port.sees l.initial.shell.port) l.shell.album l.shell.handles.items
+    IsJoining g.Po.Port.sees g.A.Album.list g.P.Spawner.faults g.A.Album.spare l.level (g.Po.Port.sees l.initial.shell.port) l.shell.album l.shell.handles.items
     × IsSame l.initial.shell l.shell
-    × Turned g.row.Po.Denot g.row.P.Denot g.row.A.Denot g.row.P-Rt.Denot g.Po.Port.sees g.A.Album.list g.A.Album.spare l.level l.shell.handles.items (l.turn-end - l.turn)
+    × Turned g.row.Po.Denot g.row.P.Denot g.row.A.Denot g.row.P-Rt.Denot g.Po.Port.sees g.A.Album.list g.P.Spawner.faults g.A.Album.spare l.level l.shell.handles.items (l.turn-end - l.turn)

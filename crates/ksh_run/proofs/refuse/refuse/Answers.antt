@@ -8,5 +8,5 @@ pub returns-then-write_line-clause-root : goal.returns-then-write_line-clause-ro
 returns-then-write_line-clause-root g c =
     let w = c.write_line.ensures.asked c.if-write_line.true in
     let p = c.before-then-write_line.ensures.parts in
-    refused_root g.Po.Port.sees g.A.Album.list (g.Po.Port.sees c.args.port) c.before-then-write_line.result (write 2 c.args.line) w.0 c.requires.fresh p.0 (rw p.3 c.requires.album)
+    refused_root g.Po.Port.sees g.A.Album.list g.P.Spawner.faults (g.Po.Port.sees c.args.port) c.before-then-write_line.result (write 2 c.args.line) w.0 c.requires.fresh p.0 (rw p.3 c.requires.album)
     (c.before-then-write_line.ensures.port ∙ ap ended w.1)

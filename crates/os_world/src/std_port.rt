@@ -16,7 +16,9 @@ pub struct StdWorld {
 }
 
 impl StdWorld {
-    pub fn new(out: Stdout, errors: Stderr) -> StdWorld {
+    pub fn new(out: Stdout, errors: Stderr) -> StdWorld
+        ensures { (result.out ≡ out) × (result.errors ≡ errors) }
+    {
         StdWorld { out, errors }
     }
 }
@@ -93,6 +95,8 @@ impl<F: Snapshot> Port<F> for StdPort {
     ghost sees = { λ p. record { done = None; children = p.children.items; live = p.live; name = p.name; origin = 0 } };
 
     ghost refusals = { λ p. p.refusals };
+
+    ghost covers = { λ p. tt };
 
     fn act(&mut self, _alloc: Global, call: Call) -> Result<Answer, Memory> {
         let answer = self.answer(&call);
