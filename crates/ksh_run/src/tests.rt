@@ -123,7 +123,9 @@ fn long_output_is_written_in_pieces(rt: HostRuntime) -> Result<(), Fail> {
     let t = tell(rt, &[b"-c", script.bytes()], None)?;
     assert!(rt; t.why == Why::Meant && t.status == 0 && t.asks == 2);
     let out = t.out.bytes();
-    assert!(rt; out.len() == 5_003 && out.get(4_095) == Some(&b'a') && out.get(4_096) == Some(&b'|'));
+    assert!(rt;
+        out.len() == 5_003 && out.get(4_095) == Some(&b'a') && out.get(4_096) == Some(&b'|')
+    );
     assert!(rt; out.get(5_001) == Some(&b'\n') && out.get(5_002) == Some(&b'|'));
     Ok(())
 }

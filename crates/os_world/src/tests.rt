@@ -6,6 +6,7 @@ use std::env::{Env, FillError};
 use std::test::Fail;
 
 // A program called with these arguments, its name first.
+#[derive(Drop)]
 struct Called<'a> {
     arguments: &'a [&'a [u8]],
 }
