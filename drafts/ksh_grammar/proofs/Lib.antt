@@ -1,0 +1,4 @@
+pub mod Begins
+pub mod Reading
+pub mod Moves
+pub mod Checked
