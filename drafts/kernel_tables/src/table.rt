@@ -1,4 +1,4 @@
-ghost use Rattle.std.specs.Prelude.{◌≡◌, [], length, is_some, IfOk, OnOk, OnErr};
+ghost use Rattle.std.specs.Prelude.{◌≡◌, List, [], ◌∷◌, length, is_some, IfOk, OnOk, OnErr, MatchOption};
 ghost use Rattle.std.specs.Borrow.{sem};
 ghost use Rattle.std.specs.Option.{option_copied, option_copied_mut};
 ghost use Rattle.std.specs.BTreeMap.{insert_entry, is_at};
@@ -8,6 +8,7 @@ ghost use Rattle.kernel_tables.specs.Lent.{lends_value};
 use ksh_base::Memory;
 use std::alloc::Global;
 use std::collections::BTreeMap;
+use std::collections::btree_map::Iter;
 use std::marker::Model;
 
 /// Rows of a key and its value. Contracts see the list of the rows, in the order of the keys.
@@ -56,6 +57,13 @@ impl<K: Ord, V> Table<K, V> {
         self.rows.get(key)
     }
 
+    /// The rows, in the order of their keys.
+    pub fn iter(&self) -> Iter<'_, K, V>
+        ensures { result ≡ self.now }
+    {
+        self.rows.iter()
+    }
+
     pub fn get_mut(&mut self, key: &K) -> Option<&mut V>
         ensures* writes_back { sem 𝓛 (lends_value K.row V.row K.Ord self.entry (K.cmp key.now) result) }
         ensures value { option_copied_mut result ≡ lookup (is_at (K.cmp key.now)) self.old }
@@ -65,13 +73,28 @@ impl<K: Ord, V> Table<K, V> {
 }
 
 impl<K: Ord + Drop, V: Drop> Table<K, V> {
-    /// Gives a key a value. A key that is there keeps its row and gets the new value.
-    pub fn put(&mut self, key: K, value: V) -> Result<(), Memory>
+    /// Gives a key a value, and answers the value that it had. A key that is there keeps its row.
+    pub fn put(&mut self, key: K, value: V) -> Result<Option<V>, Memory>
+        ensures had { IfOk result (λ had. had ≡ lookup (is_at (K.cmp key)) self.old) }
         ensures ok { OnOk result (self.new ≡ insert_entry K.cmp self.old key value) }
         ensures err { OnErr result (self.new ≡ self.old) }
     {
-        self.rows.insert(key, value)?;
-        Ok(())
+        let had = self.rows.insert(key, value)?;
+        Ok(had)
+    }
+
+    /// Takes back a `put` that has just been made, given what it answered.
+    pub fn undo_put(&mut self, key: &K, had: Option<V>)
+        ensures { (rows : List (K × V)) (value : V) → self.old ≡ insert_entry K.cmp rows key.now value → had ≡ lookup (is_at (K.cmp key.now)) rows → self.new ≡ rows }
+    {
+        match had {
+            None => drop(self.rows.remove(key)),
+            Some(value) => {
+                if let Some(row) = self.rows.get_mut(key) {
+                    *row = value;
+                }
+            }
+        }
     }
 
     /// Takes a row out.
@@ -80,5 +103,12 @@ impl<K: Ord + Drop, V: Drop> Table<K, V> {
         ensures rest { self.new ≡ remove_entry (is_at (K.cmp key.now)) self.old }
     {
         self.rows.remove(key)
+    }
+
+    /// Takes the first row out.
+    pub fn pop_first(&mut self) -> Option<(K, V)>
+        ensures { MatchOption result ((self.old ≡ []) × (self.new ≡ [])) (λ row. self.old ≡ row ∷ self.new) }
+    {
+        self.rows.pop_first()
     }
 }
