@@ -1,0 +1,34 @@
+use kernel_objects::{Files, Opened, Shell};
+use kernel_tables::Table;
+use ksh_base::{ShellName, Text};
+
+pub(crate) const MOST_HANDLES: usize = 1024;
+pub(crate) const MOST_SHELLS: usize = 4096;
+pub(crate) const MOST_FILES: usize = 65_536;
+pub(crate) const MOST_BYTES: usize = 16_777_216;
+pub(crate) const MOST_HELD: usize = 65_536;
+pub(crate) const MOST_NUMBER: u64 = 4_294_967_295;
+
+/// What is there whether or not a handle stands for it.
+#[derive(Drop)]
+pub struct Stores {
+    pub files: Files,
+    /// How many nameless files there are.
+    pub nameless: usize,
+    pub input: Text,
+    /// What was written on the opening handle 1.
+    pub output: Text,
+    /// What was written on the opening handle 2.
+    pub errors: Text,
+}
+
+/// A kernel in memory. Rows stand in the order of names that don't depend on which of two shells
+/// came first.
+#[derive(Drop)]
+pub struct Kernel {
+    /// Every shell that was made, by its name.
+    pub shells: Table<ShellName, Shell>,
+    /// What is open.
+    pub opens: Table<ShellName, Opened>,
+    pub stores: Stores,
+}

@@ -1,0 +1,7 @@
+//! The kernel in memory: shells, their handles, files, pipes and programs, one ask at a time.
+#![tactic(auto)]
+
+mod handles;
+mod kernel;
+
+pub use kernel::{Kernel, Stores};
