@@ -3,7 +3,7 @@ use crate::{Ended, Why, run_shell};
 use kernel_ask::{Answer, Ask, Call, Entry, ListPort, ListWorld, Refusal};
 use ksh_base::{BytesSource, Memory, ShellName, Text};
 use shell_state::Start;
-use shell_thread::{CallerSpawner, FewSpawner, Kept, ListAlbum, NoAlbum, ShellEnd, ShellStop};
+use shell_thread::{FewSpawner, NoAlbum, ShellEnd, ShellStop};
 use std::alloc::Global;
 use std::test::Fail;
 use std::thread::Threads;
@@ -165,41 +165,5 @@ fn budgets_sources_and_threads(rt: HostRuntime) -> Result<(), Fail> {
         run(rt, &words, Vec::new(alloc), Vec::new(alloc), refused)?,
     )?;
     assert!(rt; t.why == Why::Meant && t.status == 254 && t.out.is_empty());
-    Ok(())
-}
-
-// The ends of the shells that the root of a script forked.
-fn ends<R: Threads + AllocGlobal + Copy + Send + 'static>(
-    rt: R,
-    script: &[u8],
-) -> Result<Vec<Kept<ListPort<Start>>>, Memory> {
-    let alloc = rt.alloc();
-    let ended = run_shell(
-        alloc,
-        &[Text::of(alloc, b"-c")?, Text::of(alloc, script)?],
-        &[],
-        &mut BytesSource::new(Text::empty(alloc), Vec::new(alloc)),
-        ListWorld::new(Vec::new(alloc)),
-        CallerSpawner::new(rt),
-        ListAlbum::new(alloc),
-    );
-    match ended.root {
-        Some(root) => Ok(root.album.ends()),
-        None => Err(Memory),
-    }
-}
-
-#[test]
-fn the_album_has_one_end_for_each_fork(rt: HostRuntime) -> Result<(), Fail> {
-    let alloc = rt.alloc();
-    let ends = ends(rt, b"x=1; (x=2; print $x); print $x")?;
-    assert!(rt; ends.len() == 1);
-    let Some(end) = ends.first() else {
-        return Err(Fail::from(Memory));
-    };
-    assert!(rt; end.name.forks() == [1].as_slice() && end.status == 0 && end.album.is_empty());
-    assert!(rt; end.stop == ShellStop::Meant && !end.port.live());
-    let out = written(alloc, end.port.entries(), 1)?;
-    assert!(rt; out.bytes() == b"2\n|".as_slice());
     Ok(())
 }
