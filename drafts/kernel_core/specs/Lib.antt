@@ -1,4 +1,5 @@
 pub mod Files
 pub mod Handles
 pub mod Limits
+pub mod Open
 pub mod Turn

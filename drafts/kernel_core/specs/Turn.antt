@@ -17,6 +17,11 @@ pub data Turn : Type 0 where
 abbrev pub refused : Kernel → Refusal → Turn
 refused k why = Answers (Refused why) k
 
+-- the refusal where there is one, else that
+abbrev pub unless : Kernel → Option Refusal → Turn → Turn
+unless k (Some why) turn = refused k why
+unless k None turn = turn
+
 -- no answer stands for a shell that isn't there
 abbrev pub by_shell : Option Shell → (Shell → Turn) → Turn
 by_shell None f = Waits

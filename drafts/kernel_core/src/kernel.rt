@@ -1,3 +1,7 @@
+ghost use Rattle.std.specs.Prelude.{◌≡◌, Some};
+ghost use Rattle.kernel_ask.specs.declared.ask.Answer.TheVariants.{Refused};
+
+use kernel_ask::{Answer, Refusal};
 use kernel_objects::{Files, Opened, Shell};
 use kernel_tables::Table;
 use ksh_base::{ShellName, Text};
@@ -22,6 +26,9 @@ pub struct Stores {
     pub errors: Text,
 }
 
+/// What is open, by name.
+pub type Opens = Table<ShellName, Opened>;
+
 /// A kernel in memory. Rows stand in the order of names that don't depend on which of two shells
 /// came first.
 #[derive(Drop)]
@@ -29,6 +36,12 @@ pub struct Kernel {
     /// Every shell that was made, by its name.
     pub shells: Table<ShellName, Shell>,
     /// What is open.
-    pub opens: Table<ShellName, Opened>,
+    pub opens: Opens,
     pub stores: Stores,
+}
+
+pub(crate) fn refuse(why: Refusal) -> Option<Answer>
+    ensures { result ≡ Some (Refused why) }
+{
+    Some(Answer::Refused(why))
 }

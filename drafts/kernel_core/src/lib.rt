@@ -3,5 +3,6 @@
 
 mod handles;
 mod kernel;
+mod open;
 
-pub use kernel::{Kernel, Stores};
+pub use kernel::{Kernel, Opens, Stores};
