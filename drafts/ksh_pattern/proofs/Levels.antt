@@ -13,7 +13,7 @@ use Rattle.ksh_pattern.specs.declared.cell.Cell.{Cell, Cell-F, fold-roll-Cell, r
 use Rattle.ksh_pattern.specs.declared.cell.Cell.TheVariants as cell
 use Rattle.ksh_pattern.specs.declared.cell.Cell.TheShapes as shape
 use Rattle.ksh_pattern.specs.Match.{Texts, is_empty_text, one_byte, some_cut, joined, either, any_number, repeated, part_step, part_matches, matches, one_matches, has_empty}
-use Rattle.ksh_pattern.specs.Cells.{Meaning, cell_step, meaning, whole, rest, whole_all, rest_all, whole_some, rest_some, rest_repeated, wholes, rests, some_rest}
+use Rattle.ksh_pattern.specs.Cells.{Meaning, cell_step, meaning, whole, rest, whole_all, rest_all, whole_some, rest_some, rest_repeated, wholes, rests, some_rest, looped}
 
 pub group_matches : (k : Kind) (alternatives : List (List Part)) (w : List ℕ) → part_matches (part.Group k alternatives) w ≡ repeated k (one_matches alternatives) w
 group_matches k alternatives w =
@@ -32,11 +32,11 @@ meanings = (shape.former-Cell-Group-1-at-1).map Cell Meaning meaning
 abbrev meanings_of : Vec (Vec Cell) → Vec (Vec Meaning)
 meanings_of = (shape.former-Cell-Group-1-at-2).map Cell Meaning meaning
 
-pub group_meaning : (k : Kind) (alternatives : Vec (Vec Cell)) → meaning (cell.Group k alternatives) ≡ (repeated k (whole_some alternatives.items), rest_repeated k (whole_some alternatives.items) (rest_some alternatives.items))
+pub group_meaning : (k : Kind) (alternatives : Vec (Vec Cell)) → meaning (cell.Group k alternatives) ≡ (looped k (whole_some alternatives.items), rest_repeated k (whole_some alternatives.items) (rest_some alternatives.items))
 group_meaning k alternatives =
     ap meaning (sym (cell.rolls-Group k alternatives))
     ∙ fold-roll-Cell Meaning cell_step (Cell-F.Group k alternatives)
-    ∙ (λ i. (repeated k (either (map-map (λ (v : Vec Meaning). wholes v.items) meanings alternatives.items i)), rest_repeated k (either (map-map (λ (v : Vec Meaning). wholes v.items) meanings alternatives.items i)) (either (map-map (λ (v : Vec Meaning). rests v.items) meanings alternatives.items i))))
+    ∙ (λ i. (looped k (either (map-map (λ (v : Vec Meaning). wholes v.items) meanings alternatives.items i)), rest_repeated k (either (map-map (λ (v : Vec Meaning). wholes v.items) meanings alternatives.items i)) (either (map-map (λ (v : Vec Meaning). rests v.items) meanings alternatives.items i))))
 
 any-map : {A B : Type 0} (p : B → Bool) (f : A → B) (xs : List A) → list_any p (map f xs) ≡ list_any (λ x. p (f x)) xs
 any-map p f [] = refl
@@ -60,3 +60,16 @@ repeated_empty kind.Not p = refl
 
 pub group_empty : (p : Part) (k : Kind) (alternatives : List (List Part)) → p ≡ part.Group k alternatives → part_matches p [] ≡ has_empty k (one_matches alternatives [])
 group_empty p k alternatives e = ap (λ q. part_matches q []) e ∙ group_matches k alternatives [] ∙ repeated_empty k (one_matches alternatives)
+
+-- a cell that is known to be a group, or a `!` group
+pub cell_whole : (k : Kind) (alternatives : Vec (Vec Cell)) (w : List ℕ) → whole (cell.Group k alternatives) w ≡ looped k (whole_some alternatives.items) w
+cell_whole k alternatives w = ap (λ (m : Meaning). m.0 w) (group_meaning k alternatives)
+
+pub cell_rest : (k : Kind) (alternatives : Vec (Vec Cell)) (w : List ℕ) → rest (cell.Group k alternatives) w ≡ rest_repeated k (whole_some alternatives.items) (rest_some alternatives.items) w
+cell_rest k alternatives w = ap (λ (m : Meaning). m.1 w) (group_meaning k alternatives)
+
+pub not_whole : (alternatives : List (List Part)) (copies : Vec (Vec (Vec Cell))) (w : List ℕ) → whole (cell.Not alternatives copies) w ≡ not (one_matches alternatives w)
+not_whole alternatives copies w = ap (λ (m : Meaning). m.0 w) (not_meaning alternatives copies)
+
+pub not_rest : (alternatives : List (List Part)) (copies : Vec (Vec (Vec Cell))) (w : List ℕ) → rest (cell.Not alternatives copies) w ≡ list_any (λ (copy : Vec (Vec Cell)). not (rest_some copy.items w)) copies.items
+not_rest alternatives copies w = ap (λ (m : Meaning). m.1 w) (not_meaning alternatives copies)

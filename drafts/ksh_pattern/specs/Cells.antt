@@ -26,6 +26,11 @@ some_whole alternatives = either (map (λ (v : Vec Meaning). wholes v.items) alt
 abbrev pub some_rest : List (Vec Meaning) → Texts
 some_rest alternatives = either (map (λ (v : Vec Meaning). rests v.items) alternatives)
 
+-- what a group other than `!`, which has a cell of its own, makes of a set
+abbrev pub looped : Kind → Texts → Texts
+looped Not p w = p w
+looped kind p w = repeated kind p w
+
 -- from a mark in a repeated group to its end: through the repetition at hand, and any number of further ones
 abbrev pub rest_repeated : Kind → Texts → Texts → Texts
 rest_repeated Any p r w = some_cut r (any_number p) w
@@ -36,7 +41,7 @@ abbrev pub cell_step : Cell-F Meaning → Meaning
 cell_step (Cell-F.One test mark) = (one_byte test, λ w. mark && is_empty_text w)
 cell_step (Cell-F.AnyText mark) = (λ w. true, λ w. mark)
 cell_step (Cell-F.Group kind alternatives) =
-    (repeated kind (some_whole alternatives.items), rest_repeated kind (some_whole alternatives.items) (some_rest alternatives.items))
+    (looped kind (some_whole alternatives.items), rest_repeated kind (some_whole alternatives.items) (some_rest alternatives.items))
 cell_step (Cell-F.Not alternatives copies) =
     (repeated Not (one_matches alternatives), λ w. list_any (λ (copy : Vec (Vec Meaning)). not (some_rest copy.items w)) copies.items)
 
@@ -60,3 +65,7 @@ whole_some alternatives = either (map (λ (v : Vec Cell). whole_all v.items) alt
 
 abbrev pub rest_some : List (Vec Cell) → Texts
 rest_some alternatives = either (map (λ (v : Vec Cell). rest_all v.items) alternatives)
+
+-- what is left of a `!` group: the texts with which one of its copies doesn't end
+abbrev pub rest_copies : List (Vec (Vec Cell)) → Texts
+rest_copies copies w = list_any (λ (copy : Vec (Vec Cell)). not (rest_some copy.items w)) copies

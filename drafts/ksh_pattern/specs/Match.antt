@@ -59,6 +59,17 @@ has_empty Many one = one
 has_empty One one = one
 has_empty Not one = not one
 
+-- the same, where `!` passes for `@`
+abbrev pub may_vanish : Kind → Bool → Bool
+may_vanish Not one = one
+may_vanish kind one = has_empty kind one
+
+-- whether alternatives may follow each other
+abbrev pub goes_on : Kind → Bool
+goes_on Any = true
+goes_on Many = true
+goes_on kind = false
+
 -- one level of a pattern, with the texts of each part in its place
 abbrev pub part_step : Part-F Texts → Texts
 part_step (Part-F.One test) w = one_byte test w

@@ -1,11 +1,9 @@
 //! A pattern that is being matched: the places in it that a text so far leads to are marked, so that each byte is
 //! one walk over the pattern.
-ghost use Rattle.std.specs.Prelude.{◌≡◌, ℕ, List, [], ◌∷◌, Bool, true, false, ◌||◌, ◌&&◌, not, IfOk};
-ghost use Rattle.std.specs.Global.{Vec};
-ghost use Rattle.std.specs.List.{list_any};
-ghost use Rattle.ksh_pattern.specs.declared.cell.Cell.{Cell};
-ghost use Rattle.ksh_pattern.specs.Match.{part_matches, matches, one_matches, repeated};
-ghost use Rattle.ksh_pattern.specs.Cells.{whole, rest, whole_all, rest_all, whole_some, rest_some};
+ghost use Rattle.std.specs.Prelude.{◌≡◌, ℕ, List, [], ◌∷◌, Bool, true, false, ◌||◌, ◌&&◌, not, IfOk, OnOk};
+ghost use Rattle.ksh_pattern.specs.ByteTests.{accepts};
+ghost use Rattle.ksh_pattern.specs.Match.{part_matches, matches, one_matches, repeated, goes_on};
+ghost use Rattle.ksh_pattern.specs.Cells.{whole, rest, whole_all, rest_all, whole_some, rest_some, rest_copies, rest_repeated, looped};
 
 use crate::byte_test::ByteTest;
 use crate::part::{Kind, Part};
@@ -23,13 +21,49 @@ pub enum Cell {
     Not(Shared<Items<Items<Part>>>, Vec<Vec<Vec<Cell>>>),
 }
 
-/// What was true before a byte: the text so far could end here, and the empty text matches; and whether anything is
-/// marked after it.
+/// What is true at a place of the text: whether the text so far may end there, and whether the empty text matches.
 #[derive(Clone, Copy, Debug, PartialEq, Eq)]
-pub struct Step {
+pub struct Look {
     pub last: bool,
     pub empty: bool,
+}
+
+/// What was true before a byte, and whether a mark is left after it.
+#[derive(Clone, Copy, Debug, PartialEq, Eq)]
+pub struct Step {
+    pub before: Look,
     pub live: bool,
+}
+
+impl Look {
+    /// Of one part and then another.
+    fn then(self, next: Look) -> Look
+        ensures last { result.last ≡ ((self.last && next.empty) || next.last) }
+        ensures empty { result.empty ≡ (self.empty && next.empty) }
+    {
+        Look {
+            last: (self.last && next.empty) || next.last,
+            empty: self.empty && next.empty,
+        }
+    }
+
+    /// Of one part or another.
+    fn or(self, other: Look) -> Look
+        ensures last { result.last ≡ (self.last || other.last) }
+        ensures empty { result.empty ≡ (self.empty || other.empty) }
+    {
+        Look {
+            last: self.last || other.last,
+            empty: self.empty || other.empty,
+        }
+    }
+
+    /// Whether a match that enters here, or is under way, reaches this place.
+    fn reaches(self, entering: bool) -> bool
+        ensures { result ≡ (self.last || (entering && self.empty)) }
+    {
+        self.last || (entering && self.empty)
+    }
 }
 
 /// Whether a part matches the empty text.
@@ -115,7 +149,7 @@ fn begin_copies(
     entering: bool,
     byte: u8,
 ) -> Result<Vec<Vec<Vec<Cell>>>, Memory>
-    ensures { IfOk result (λ v. (w : List ℕ) → list_any (λ (copy : Vec (Vec Cell)). not (rest_some copy.items w)) v.items ≡ (entering && not (one_matches alternatives.now (byte ∷ w)))) }
+    ensures { IfOk result (λ v. (w : List ℕ) → rest_copies v.items w ≡ (entering && not (one_matches alternatives.now (byte ∷ w)))) }
 {
     let mut copies = Vec::new(alloc);
     if entering {
@@ -158,4 +192,216 @@ fn begin_some(
         begun.push(cells)?;
     }
     Ok(begun)
+}
+
+/// Whether the text so far may end at a part, and whether the part matches the empty text.
+#[cycle(look)]
+fn look_cell(cell: &Cell) -> Look
+    ensures last { result.last ≡ rest cell.now [] }
+    ensures empty { result.empty ≡ whole cell.now [] }
+{
+    match cell {
+        Cell::One(_, mark) => Look { last: *mark, empty: false },
+        Cell::AnyText(mark) => Look { last: *mark, empty: true },
+        Cell::Group(kind, alternatives) => {
+            let inner = look_some(alternatives);
+            Look { last: inner.last, empty: kind.may_vanish(inner.empty) }
+        }
+        Cell::Not(alternatives, copies) => Look {
+            last: look_copies(copies),
+            empty: !empty_some(alternatives.get().as_slice()),
+        },
+    }
+}
+
+/// The same of a list of parts.
+#[cycle(look)]
+pub fn look_all(cells: &[Cell]) -> Look
+    ensures last { result.last ≡ rest_all cells.now [] }
+    ensures empty { result.empty ≡ whole_all cells.now [] }
+{
+    let mut before = Look { last: false, empty: true };
+    for cell in cells {
+        let here = look_cell(cell);
+        before = before.then(here);
+    }
+    before
+}
+
+/// The same of alternatives.
+#[cycle(look)]
+fn look_some(alternatives: &[Vec<Cell>]) -> Look
+    ensures last { result.last ≡ rest_some alternatives.now [] }
+    ensures empty { result.empty ≡ whole_some alternatives.now [] }
+{
+    let mut before = Look { last: false, empty: false };
+    for cells in alternatives {
+        let here = look_all(cells);
+        before = before.or(here);
+    }
+    before
+}
+
+/// Whether one of the copies of a `!` group doesn't match the text that it was given.
+#[cycle(look)]
+fn look_copies(copies: &[Vec<Vec<Cell>>]) -> bool
+    ensures { result ≡ rest_copies copies.now [] }
+{
+    for copy in copies {
+        let here = look_some(copy);
+        if !here.last {
+            return true;
+        }
+    }
+    false
+}
+
+/// A part after a further byte; `entering` tells whether a match of it begins with that byte.
+#[cycle(shift)]
+fn shift_cell(alloc: Global, cell: &mut Cell, entering: bool, byte: u8) -> Result<Step, Memory>
+    ensures last { IfOk result (λ s. s.before.last ≡ rest cell.old []) }
+    ensures empty { IfOk result (λ s. s.before.empty ≡ whole cell.old []) }
+    ensures same { OnOk result ((w : List ℕ) → whole cell.new w ≡ whole cell.old w) }
+    ensures shifts { OnOk result ((w : List ℕ) → rest cell.new w ≡ (rest cell.old (byte ∷ w) || (entering && whole cell.old (byte ∷ w)))) }
+    ensures live { IfOk result (λ s. s.live ≡ false → (w : List ℕ) → rest cell.new w ≡ false) }
+{
+    match cell {
+        Cell::One(test, mark) => Ok(shift_one(test, mark, entering, byte)),
+        Cell::AnyText(mark) => Ok(shift_any(mark, entering)),
+        Cell::Group(kind, alternatives) => shift_group(alloc, *kind, alternatives, entering, byte),
+        Cell::Not(alternatives, copies) => {
+            shift_not(alloc, alternatives.get().as_slice(), copies, entering, byte)
+        }
+    }
+}
+
+/// The mark of a part of one byte after a further byte.
+fn shift_one(test: &ByteTest, mark: &mut bool, entering: bool, byte: u8) -> Step
+    ensures before { result.before ≡ record { last = mark.old; empty = false } }
+    ensures mark { mark.new ≡ (entering && accepts test.now byte) }
+    ensures live { result.live ≡ mark.new }
+{
+    let last = *mark;
+    *mark = entering && test.accepts(byte);
+    Step { before: Look { last, empty: false }, live: *mark }
+}
+
+/// The mark of a `*` after a further byte.
+fn shift_any(mark: &mut bool, entering: bool) -> Step
+    ensures before { result.before ≡ record { last = mark.old; empty = true } }
+    ensures mark { mark.new ≡ (mark.old || entering) }
+    ensures live { result.live ≡ mark.new }
+{
+    let last = *mark;
+    *mark = last || entering;
+    Step { before: Look { last, empty: true }, live: *mark }
+}
+
+/// The alternatives of a group after a further byte.
+#[cycle(shift)]
+fn shift_group(
+    alloc: Global,
+    kind: Kind,
+    alternatives: &mut Vec<Vec<Cell>>,
+    entering: bool,
+    byte: u8,
+) -> Result<Step, Memory>
+    ensures last { IfOk result (λ s. s.before.last ≡ rest_repeated kind (whole_some alternatives.old.items) (rest_some alternatives.old.items) []) }
+    ensures empty { IfOk result (λ s. s.before.empty ≡ looped kind (whole_some alternatives.old.items) []) }
+    ensures same { OnOk result ((w : List ℕ) → looped kind (whole_some alternatives.new.items) w ≡ looped kind (whole_some alternatives.old.items) w) }
+    ensures shifts { OnOk result ((w : List ℕ) → rest_repeated kind (whole_some alternatives.new.items) (rest_some alternatives.new.items) w
+        ≡ (rest_repeated kind (whole_some alternatives.old.items) (rest_some alternatives.old.items) (byte ∷ w) || (entering && looped kind (whole_some alternatives.old.items) (byte ∷ w)))) }
+    ensures live { IfOk result (λ s. s.live ≡ false → (w : List ℕ) → rest_repeated kind (whole_some alternatives.new.items) (rest_some alternatives.new.items) w ≡ false) }
+{
+    let enters = enters_group(kind, alternatives, entering);
+    let step = shift_some(alloc, alternatives, enters, byte)?;
+    let before = Look { last: step.before.last, empty: kind.may_vanish(step.before.empty) };
+    Ok(Step { before, live: step.live })
+}
+
+/// Whether a repetition of a group begins here: where the group is entered, or one of its repetitions ended.
+fn enters_group(kind: Kind, alternatives: &[Vec<Cell>], entering: bool) -> bool
+    ensures { result ≡ (entering || (goes_on kind && rest_some alternatives.now [])) }
+{
+    entering || (kind.goes_on() && look_some(alternatives).last)
+}
+
+/// A list of parts after a further byte.
+#[cycle(shift)]
+pub fn shift_all(alloc: Global, cells: &mut Vec<Cell>, entering: bool, byte: u8) -> Result<Step, Memory>
+    ensures last { IfOk result (λ s. s.before.last ≡ rest_all cells.old.items []) }
+    ensures empty { IfOk result (λ s. s.before.empty ≡ whole_all cells.old.items []) }
+    ensures same { OnOk result ((w : List ℕ) → whole_all cells.new.items w ≡ whole_all cells.old.items w) }
+    ensures shifts { OnOk result ((w : List ℕ) → rest_all cells.new.items w ≡ (rest_all cells.old.items (byte ∷ w) || (entering && whole_all cells.old.items (byte ∷ w)))) }
+    ensures live { IfOk result (λ s. s.live ≡ false → (w : List ℕ) → rest_all cells.new.items w ≡ false) }
+{
+    let mut before = Look { last: false, empty: true };
+    let mut live = false;
+    for cell in cells.iter_mut() {
+        let step = shift_cell(alloc, cell, before.reaches(entering), byte)?;
+        before = before.then(step.before);
+        live = live || step.live;
+    }
+    Ok(Step { before, live })
+}
+
+/// Alternatives after a further byte.
+#[cycle(shift)]
+fn shift_some(
+    alloc: Global,
+    alternatives: &mut Vec<Vec<Cell>>,
+    entering: bool,
+    byte: u8,
+) -> Result<Step, Memory>
+    ensures last { IfOk result (λ s. s.before.last ≡ rest_some alternatives.old.items []) }
+    ensures empty { IfOk result (λ s. s.before.empty ≡ whole_some alternatives.old.items []) }
+    ensures same { OnOk result ((w : List ℕ) → whole_some alternatives.new.items w ≡ whole_some alternatives.old.items w) }
+    ensures shifts { OnOk result ((w : List ℕ) → rest_some alternatives.new.items w ≡ (rest_some alternatives.old.items (byte ∷ w) || (entering && whole_some alternatives.old.items (byte ∷ w)))) }
+    ensures live { IfOk result (λ s. s.live ≡ false → (w : List ℕ) → rest_some alternatives.new.items w ≡ false) }
+{
+    let mut before = Look { last: false, empty: false };
+    let mut live = false;
+    for cells in alternatives.iter_mut() {
+        let step = shift_all(alloc, cells, entering, byte)?;
+        before = before.or(step.before);
+        live = live || step.live;
+    }
+    Ok(Step { before, live })
+}
+
+/// The copies of a `!` group after a further byte, with which another one may begin.
+#[cycle(shift)]
+fn shift_not(
+    alloc: Global,
+    alternatives: &[Items<Part>],
+    copies: &mut Vec<Vec<Vec<Cell>>>,
+    entering: bool,
+    byte: u8,
+) -> Result<Step, Memory>
+    ensures last { IfOk result (λ s. s.before.last ≡ rest_copies copies.old.items []) }
+    ensures empty { IfOk result (λ s. s.before.empty ≡ not (one_matches alternatives.now [])) }
+    ensures shifts { OnOk result ((w : List ℕ) → rest_copies copies.new.items w ≡ (rest_copies copies.old.items (byte ∷ w) || (entering && not (one_matches alternatives.now (byte ∷ w))))) }
+    ensures live { IfOk result (λ s. s.live ≡ false → (w : List ℕ) → rest_copies copies.new.items w ≡ false) }
+{
+    let last = shift_copies(alloc, copies, byte)?;
+    if entering {
+        let copy = begin_some(alloc, alternatives, true, byte)?;
+        copies.push(copy)?;
+    }
+    let before = Look { last, empty: !empty_some(alternatives) };
+    Ok(Step { before, live: !copies.is_empty() })
+}
+
+/// The copies of a `!` group after a further byte, and whether one of them didn't match the text before it.
+#[cycle(shift)]
+fn shift_copies(alloc: Global, copies: &mut Vec<Vec<Vec<Cell>>>, byte: u8) -> Result<bool, Memory>
+    ensures last { IfOk result (λ last. last ≡ rest_copies copies.old.items []) }
+    ensures shifts { OnOk result ((w : List ℕ) → rest_copies copies.new.items w ≡ rest_copies copies.old.items (byte ∷ w)) }
+{
+    let mut last = false;
+    for copy in copies.iter_mut() {
+        let step = shift_some(alloc, copy, false, byte)?;
+        last = last || !step.before.last;
+    }
+    Ok(last)
 }

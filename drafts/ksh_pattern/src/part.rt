@@ -1,6 +1,6 @@
 //! A pattern as a tree.
 ghost use Rattle.std.specs.Prelude.{◌≡◌};
-ghost use Rattle.ksh_pattern.specs.Match.{has_empty};
+ghost use Rattle.ksh_pattern.specs.Match.{has_empty, may_vanish, goes_on};
 
 use crate::byte_test::ByteTest;
 use ksh_base::{Items, Shared};
@@ -33,6 +33,26 @@ impl Kind {
             Kind::Optional | Kind::Any => true,
             Kind::Many | Kind::One => one,
             Kind::Not => !one,
+        }
+    }
+
+    /// The same, where `!` is left to a cell of its own and passes for `@`.
+    pub fn may_vanish(self, one: bool) -> bool
+        ensures { result ≡ may_vanish self one }
+    {
+        match self {
+            Kind::Optional | Kind::Any => true,
+            Kind::Many | Kind::One | Kind::Not => one,
+        }
+    }
+
+    /// Whether such a group may go on with its alternatives where one of them ended.
+    pub fn goes_on(self) -> bool
+        ensures { result ≡ goes_on self }
+    {
+        match self {
+            Kind::Any | Kind::Many => true,
+            Kind::Optional | Kind::One | Kind::Not => false,
         }
     }
 }
