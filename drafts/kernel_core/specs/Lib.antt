@@ -2,4 +2,5 @@ pub mod Files
 pub mod Handles
 pub mod Limits
 pub mod Open
+pub mod Transfer
 pub mod Turn

@@ -4,5 +4,6 @@
 mod handles;
 mod kernel;
 mod open;
+mod transfer;
 
 pub use kernel::{Kernel, Opens, Stores};
