@@ -28,3 +28,10 @@ is_special b = is_digit b || (b == 35 || (b == 64 || (b == 42 || (b == 63 || (b 
 -- a blank, a tab, a newline, or one of `; & | ( ) < >`
 abbrev pub ends_word : ℕ → Bool
 ends_word b = b == 32 || (b == 9 || (b == 10 || (b == 59 || (b == 38 || (b == 124 || (b == 40 || (b == 41 || (b == 60 || b == 62))))))))
+
+-- how many of three bytes are there, the first ones first
+abbrev pub present : Option ℕ → Option ℕ → Option ℕ → ℕ
+present None second third = 0
+present (Some a) None third = 1
+present (Some a) (Some b) None = 2
+present (Some a) (Some b) (Some c) = 3

@@ -1,5 +1,13 @@
+pub mod Begin
 pub mod Between
+pub mod Brackets
 pub mod Bytes
+pub mod Class
+pub mod Clear
+pub mod Escapes
 pub mod Faults
 pub mod Inside
 pub mod Parameters
+pub mod Reach
+pub mod Tok
+pub mod Width

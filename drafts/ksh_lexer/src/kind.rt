@@ -112,8 +112,8 @@ pub enum TokenKind {
     Escaped,
     /// `'..'`
     Single,
-    /// `$'..'`
-    Ansi,
+    /// `$'..'`; the bytes between the quotes begin at this place.
+    Ansi(usize),
     /// `"` at the start of a quoting
     OpenQuote,
     /// `"` at the end of a quoting
@@ -150,8 +150,8 @@ pub enum TokenKind {
     Form(Form),
     /// `[@]`, or `[*]` where joined.
     Items { joined: bool },
-    /// `.name` behind a name or a subscript.
-    Member,
+    /// `.name` behind a name or a subscript; the name begins at this place.
+    Member(usize),
     /// The `@` of `${!x@}`.
     Prefix,
     /// `=` behind a subscript

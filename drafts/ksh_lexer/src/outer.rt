@@ -1,4 +1,6 @@
-ghost use Rattle.std.specs.Prelude.{◌≡◌};
+ghost use Rattle.std.specs.Prelude.{◌≡◌, ◌≤◌, IfSome, Some, None};
+ghost use Rattle.ksh_lexer.specs.Bytes.{present};
+ghost use Rattle.ksh_lexer.specs.Width.{width};
 ghost use Rattle.ksh_lexer.specs.Between.{between, greater, less, operator, parenthesis, word};
 ghost use Rattle.ksh_lexer.specs.declared.outer.Begins.TheVariants as Begins;
 ghost use Rattle.ksh_lexer.specs.declared.kind.TokenKind.TheVariants as TokenKind;
@@ -40,7 +42,8 @@ pub(crate) enum Begins {
 
 /// What begins at a place between words.
 pub(crate) fn between(mode: LexMode, ahead: Ahead) -> Begins
-    ensures { result ≡ between mode ahead.first ahead.second ahead.third }
+    ensures begins { result ≡ between mode ahead.first ahead.second ahead.third }
+    ensures fits { width result ≤ present ahead.first ahead.second ahead.third }
 {
     match ahead.first {
         None => Begins::Take(TokenKind::End, 0),
@@ -57,8 +60,9 @@ pub(crate) fn between(mode: LexMode, ahead: Ahead) -> Begins
 }
 
 /// What a `<` begins. These bytes come after it.
-fn less(second: Option<u8>, third: Option<u8>) -> Begins
-    ensures { result ≡ less second third }
+pub(crate) fn less(second: Option<u8>, third: Option<u8>) -> Begins
+    ensures begins { result ≡ less second third }
+    ensures fits { width result ≤ present (Some 60) second third }
 {
     match (second, third) {
         (Some(b'('), _) | (Some(b'#'), _) => Begins::Refuse(SyntaxKind::NotInProfile),
@@ -72,8 +76,9 @@ fn less(second: Option<u8>, third: Option<u8>) -> Begins
 }
 
 /// What a `>` begins. This byte comes after it.
-fn greater(second: Option<u8>) -> Begins
-    ensures { result ≡ greater second }
+pub(crate) fn greater(second: Option<u8>) -> Begins
+    ensures begins { result ≡ greater second }
+    ensures fits { width result ≤ present (Some 62) second None }
 {
     match second {
         Some(b'(') | Some(b'#') | Some(b';') => Begins::Refuse(SyntaxKind::NotInProfile),
@@ -92,7 +97,8 @@ fn redirect(redirection: Redirection, width: usize) -> Begins
 
 /// The operator that the byte begins where the second comes after it, and how many bytes it has.
 fn operator(mode: LexMode, byte: u8, second: Option<u8>) -> Option<(Operator, usize)>
-    ensures { result ≡ operator mode byte second }
+    ensures operator { result ≡ operator mode byte second }
+    ensures fits { IfSome result (λ o. o.1 ≤ present (Some byte) second None) }
 {
     match (byte, second) {
         (b';', Some(b';')) => Some((Operator::DoubleSemicolon, 2)),
@@ -111,7 +117,8 @@ fn operator(mode: LexMode, byte: u8, second: Option<u8>) -> Option<(Operator, us
 
 /// The operator that a `(` begins.
 fn parenthesis(mode: LexMode, second: Option<u8>) -> (Operator, usize)
-    ensures { result ≡ parenthesis mode second }
+    ensures operator { result ≡ parenthesis mode second }
+    ensures fits { result.1 ≤ present (Some 40) second None }
 {
     match (mode, second) {
         (LexMode::Pattern, _) => (Operator::OpenParenthesis, 1),
@@ -122,7 +129,8 @@ fn parenthesis(mode: LexMode, second: Option<u8>) -> (Operator, usize)
 
 /// What a byte begins that begins no operator.
 fn word(mode: LexMode, byte: u8, second: Option<u8>) -> Begins
-    ensures { result ≡ word mode byte second }
+    ensures begins { result ≡ word mode byte second }
+    ensures fits { width result ≡ 0 }
 {
     if matches!(mode, LexMode::Condition) {
         return Begins::Start;

@@ -1,4 +1,6 @@
-ghost use Rattle.std.specs.Prelude.{◌≡◌};
+ghost use Rattle.std.specs.Prelude.{◌≡◌, ◌≤◌, IfSome, Some, None};
+ghost use Rattle.ksh_lexer.specs.Bytes.{present};
+ghost use Rattle.ksh_lexer.specs.Width.{width};
 ghost use Rattle.ksh_lexer.specs.Parameters.{bracket, colon, form, form_of, length_or_special, member, parameter, replacement, target, target_or_special};
 ghost use Rattle.ksh_lexer.specs.declared.kind.Form.TheVariants as Form;
 
@@ -10,7 +12,8 @@ use crate::piece::starts_name;
 
 /// What begins behind `${`.
 pub(crate) fn parameter(ahead: Ahead) -> Begins
-    ensures { result ≡ parameter ahead.first ahead.second ahead.third }
+    ensures begins { result ≡ parameter ahead.first ahead.second ahead.third }
+    ensures fits { width result ≤ present ahead.first ahead.second ahead.third }
 {
     match ahead.first {
         None => Begins::Take(TokenKind::End, 0),
@@ -27,7 +30,8 @@ pub(crate) fn parameter(ahead: Ahead) -> Begins
 
 /// What a `!` is behind `${`: it asks for the target of the name that follows, if one does.
 fn target_or_special(second: Option<u8>) -> Begins
-    ensures { result ≡ target_or_special second }
+    ensures begins { result ≡ target_or_special second }
+    ensures fits { width result ≤ 1 }
 {
     match second {
         Some(byte) if byte == b'.' || starts_name(byte) => Begins::Take(TokenKind::Target, 1),
@@ -38,7 +42,8 @@ fn target_or_special(second: Option<u8>) -> Begins
 /// What a `#` is behind `${`: it asks for the length of the parameter that follows, if one does. A
 /// special parameter follows only where the `}` comes next.
 fn length_or_special(second: Option<u8>, third: Option<u8>) -> Begins
-    ensures { result ≡ length_or_special second third }
+    ensures begins { result ≡ length_or_special second third }
+    ensures fits { width result ≤ 1 }
 {
     match (second, third) {
         (Some(b'0'..=b'9' | b'.'), _) => Begins::Take(TokenKind::Length, 1),
@@ -51,7 +56,8 @@ fn length_or_special(second: Option<u8>, third: Option<u8>) -> Begins
 
 /// What begins behind a parameter's name, a member or a subscript in braces.
 pub(crate) fn form(ahead: Ahead) -> Begins
-    ensures { result ≡ form ahead.first ahead.second ahead.third }
+    ensures begins { result ≡ form ahead.first ahead.second ahead.third }
+    ensures fits { width result ≤ present ahead.first ahead.second ahead.third }
 {
     match ahead.first {
         None => Begins::Take(TokenKind::End, 0),
@@ -72,7 +78,8 @@ pub(crate) fn form(ahead: Ahead) -> Begins
 
 /// What a `[` begins: all items, or a subscript.
 fn bracket(second: Option<u8>, third: Option<u8>) -> Begins
-    ensures { result ≡ bracket second third }
+    ensures begins { result ≡ bracket second third }
+    ensures fits { width result ≤ present (Some 91) second third }
 {
     match (second, third) {
         (Some(b'@'), Some(b']')) => Begins::Take(TokenKind::Items { joined: false }, 3),
@@ -83,7 +90,8 @@ fn bracket(second: Option<u8>, third: Option<u8>) -> Begins
 
 /// What a `.` begins: a member where a name follows.
 fn member(second: Option<u8>, otherwise: Begins) -> Begins
-    ensures { result ≡ member second otherwise }
+    ensures begins { result ≡ member second otherwise }
+    ensures fits { width result ≤ width otherwise }
 {
     match second {
         Some(byte) if starts_name(byte) => Begins::Member,
@@ -93,7 +101,8 @@ fn member(second: Option<u8>, otherwise: Begins) -> Begins
 
 /// The form that the byte begins where the second comes after it, and how many bytes it has.
 fn form_of(byte: u8, second: Option<u8>) -> Option<(Form, usize)>
-    ensures { result ≡ form_of byte second }
+    ensures form { result ≡ form_of byte second }
+    ensures fits { IfSome result (λ f. f.1 ≤ present (Some byte) second None) }
 {
     match (byte, second) {
         (b':', _) => Some(colon(second)),
@@ -118,7 +127,8 @@ fn cut(tail: bool, longest: bool) -> Form
 
 /// The form that a `:` begins.
 fn colon(second: Option<u8>) -> (Form, usize)
-    ensures { result ≡ colon second }
+    ensures form { result ≡ colon second }
+    ensures fits { result.1 ≤ present (Some 0) second None }
 {
     match second {
         Some(b'-') => (Form::Instead { colon: true }, 2),
@@ -131,7 +141,8 @@ fn colon(second: Option<u8>) -> (Form, usize)
 
 /// The form that a `/` begins.
 fn replacement(second: Option<u8>) -> (Form, usize)
-    ensures { result ≡ replacement second }
+    ensures form { result ≡ replacement second }
+    ensures fits { result.1 ≤ present (Some 0) second None }
 {
     match second {
         Some(b'/') => (Form::ReplaceAll, 2),
@@ -143,7 +154,8 @@ fn replacement(second: Option<u8>) -> (Form, usize)
 
 /// What goes on with an assignment's path.
 pub(crate) fn target(ahead: Ahead) -> Begins
-    ensures { result ≡ target ahead.first ahead.second }
+    ensures begins { result ≡ target ahead.first ahead.second }
+    ensures fits { width result ≤ present ahead.first ahead.second None }
 {
     let otherwise = Begins::Take(TokenKind::Otherwise, 0);
     match (ahead.first, ahead.second) {

@@ -1,6 +1,7 @@
-ghost use Rattle.std.specs.Prelude.{◌≡◌};
+ghost use Rattle.std.specs.Prelude.{◌≡◌, ◌≤◌, Some, None};
+ghost use Rattle.ksh_lexer.specs.Width.{width};
 ghost use Rattle.ksh_lexer.specs.Inside.{arithmetic, at_end, backslash, dollar, double_quote, ends_braced, escapes, in_group, in_word, is_raw, opens_group, own, parenthesis, piece, quotes_singly, raw, refuses_tilde, subscript};
-ghost use Rattle.ksh_lexer.specs.Bytes.{ends_word, is_special, starts_name};
+ghost use Rattle.ksh_lexer.specs.Bytes.{present, ends_word, is_special, starts_name};
 
 use crate::fault::SyntaxKind;
 use crate::kind::TokenKind;
@@ -9,7 +10,8 @@ use crate::outer::Begins;
 
 /// What begins at a place inside a word, a quoting, a body or an arithmetic text.
 pub(crate) fn piece(mode: LexMode, ahead: Ahead) -> Begins
-    ensures { result ≡ piece mode ahead.first ahead.second ahead.third }
+    ensures begins { result ≡ piece mode ahead.first ahead.second ahead.third }
+    ensures fits { width result ≤ present ahead.first ahead.second ahead.third }
 {
     if is_raw(mode) {
         return raw(ahead.first);
@@ -41,7 +43,8 @@ fn is_raw(mode: LexMode) -> bool
 
 /// What begins in the body of a here-document whose word holds a quoting.
 fn raw(first: Option<u8>) -> Begins
-    ensures { result ≡ raw first }
+    ensures begins { result ≡ raw first }
+    ensures fits { width result ≤ present first None None }
 {
     match first {
         None => Begins::Take(TokenKind::End, 0),
@@ -53,7 +56,8 @@ fn raw(first: Option<u8>) -> Begins
 
 /// What the end of the text is.
 fn at_end(mode: LexMode) -> Begins
-    ensures { result ≡ at_end mode }
+    ensures begins { result ≡ at_end mode }
+    ensures fits { width result ≤ 0 }
 {
     match mode {
         LexMode::Word => Begins::Take(TokenKind::WordEnd, 0),
@@ -64,7 +68,8 @@ fn at_end(mode: LexMode) -> Begins
 
 /// What a backslash begins. This byte comes directly after it.
 fn backslash(mode: LexMode, second: Option<u8>) -> Begins
-    ensures { result ≡ backslash mode second }
+    ensures begins { result ≡ backslash mode second }
+    ensures fits { width result ≤ present (Some 92) second None }
 {
     match second {
         None | Some(0) => Begins::Take(TokenKind::Plain, 1),
@@ -102,7 +107,8 @@ fn quotes_singly(mode: LexMode) -> bool
 
 /// What a `"` begins.
 fn double_quote(mode: LexMode) -> Begins
-    ensures { result ≡ double_quote mode }
+    ensures begins { result ≡ double_quote mode }
+    ensures fits { width result ≤ 1 }
 {
     match mode {
         LexMode::Quoted { .. } => Begins::Take(TokenKind::CloseQuote, 1),
@@ -113,7 +119,8 @@ fn double_quote(mode: LexMode) -> Begins
 
 /// What a `$` begins. These bytes come after it.
 fn dollar(mode: LexMode, second: Option<u8>, third: Option<u8>) -> Begins
-    ensures { result ≡ dollar mode second third }
+    ensures begins { result ≡ dollar mode second third }
+    ensures fits { width result ≤ present (Some 36) second third }
 {
     match (second, third) {
         (Some(b'('), Some(b'(')) => Begins::Take(TokenKind::OpenArithmetic, 3),
@@ -145,7 +152,8 @@ fn is_special(byte: u8) -> bool
 
 /// What a byte begins that is no quoting and no expansion.
 fn own(mode: LexMode, byte: u8, second: Option<u8>) -> Begins
-    ensures { result ≡ own mode byte second }
+    ensures begins { result ≡ own mode byte second }
+    ensures fits { width result ≤ present (Some byte) second None }
 {
     match mode {
         LexMode::Word => in_word(byte, second),
@@ -167,7 +175,8 @@ fn own(mode: LexMode, byte: u8, second: Option<u8>) -> Begins
 }
 
 fn in_word(byte: u8, second: Option<u8>) -> Begins
-    ensures { result ≡ in_word byte second }
+    ensures begins { result ≡ in_word byte second }
+    ensures fits { width result ≤ 0 }
 {
     if ends_word(byte) {
         return Begins::Take(TokenKind::WordEnd, 0);
@@ -179,7 +188,7 @@ fn in_word(byte: u8, second: Option<u8>) -> Begins
 }
 
 /// Whether a word ends before the byte.
-fn ends_word(byte: u8) -> bool
+pub(crate) fn ends_word(byte: u8) -> bool
     ensures { result ≡ ends_word byte }
 {
     matches!(
@@ -197,7 +206,8 @@ fn opens_group(byte: u8) -> bool
 
 /// A `~` before a `(` is refused.
 fn refuses_tilde(byte: u8, second: Option<u8>) -> Begins
-    ensures { result ≡ refuses_tilde byte second }
+    ensures begins { result ≡ refuses_tilde byte second }
+    ensures fits { width result ≤ 0 }
 {
     match (byte, second) {
         (b'~', Some(b'(')) => Begins::Refuse(SyntaxKind::NotInProfile),
@@ -206,7 +216,8 @@ fn refuses_tilde(byte: u8, second: Option<u8>) -> Begins
 }
 
 fn in_group(byte: u8, second: Option<u8>) -> Begins
-    ensures { result ≡ in_group byte second }
+    ensures begins { result ≡ in_group byte second }
+    ensures fits { width result ≤ 1 }
 {
     match byte {
         b'(' => Begins::Take(TokenKind::Open, 1),
@@ -216,7 +227,8 @@ fn in_group(byte: u8, second: Option<u8>) -> Begins
 }
 
 fn ends_braced(end: BraceEnd, byte: u8, second: Option<u8>) -> Begins
-    ensures { result ≡ ends_braced end byte second }
+    ensures begins { result ≡ ends_braced end byte second }
+    ensures fits { width result ≤ 1 }
 {
     match (end, byte) {
         (_, b'}') => Begins::Take(TokenKind::Close, 1),
@@ -226,7 +238,8 @@ fn ends_braced(end: BraceEnd, byte: u8, second: Option<u8>) -> Begins
 }
 
 fn subscript(byte: u8) -> Begins
-    ensures { result ≡ subscript byte }
+    ensures begins { result ≡ subscript byte }
+    ensures fits { width result ≤ 1 }
 {
     match byte {
         b'[' => Begins::Take(TokenKind::Open, 1),
@@ -236,7 +249,8 @@ fn subscript(byte: u8) -> Begins
 }
 
 fn arithmetic(byte: u8, second: Option<u8>) -> Begins
-    ensures { result ≡ arithmetic byte second }
+    ensures begins { result ≡ arithmetic byte second }
+    ensures fits { width result ≤ present (Some byte) second None }
 {
     match (byte, second) {
         (b'(', _) => Begins::Take(TokenKind::Open, 1),
@@ -246,7 +260,8 @@ fn arithmetic(byte: u8, second: Option<u8>) -> Begins
 }
 
 fn parenthesis(byte: u8) -> Begins
-    ensures { result ≡ parenthesis byte }
+    ensures begins { result ≡ parenthesis byte }
+    ensures fits { width result ≤ 1 }
 {
     match byte {
         b'(' => Begins::Take(TokenKind::Open, 1),

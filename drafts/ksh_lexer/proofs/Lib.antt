@@ -1,0 +1,5 @@
+pub mod Found
+pub mod Ordinary
+pub mod Runs
+pub mod Span
+pub mod Widths
