@@ -1,0 +1,5 @@
+pub mod Absent
+pub mod Adds
+pub mod Keeps
+pub mod Sets
+pub mod Starts

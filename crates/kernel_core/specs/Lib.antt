@@ -1,0 +1,11 @@
+pub mod Files
+pub mod Forks
+pub mod Handles
+pub mod Limits
+pub mod Look
+pub mod Open
+pub mod Opening
+pub mod Programs
+pub mod Step
+pub mod Transfer
+pub mod Turn

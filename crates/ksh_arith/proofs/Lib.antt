@@ -1,0 +1,5 @@
+pub mod Powers
+pub mod Serving
+pub mod Forms
+pub mod Scanning
+pub mod Levels

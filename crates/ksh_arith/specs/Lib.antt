@@ -1,0 +1,5 @@
+pub mod Asks
+pub mod Grammar
+pub mod Meaning
+pub mod Numerals
+pub mod Values

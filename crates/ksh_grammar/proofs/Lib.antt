@@ -1,0 +1,5 @@
+pub mod Begins
+pub mod Reading
+pub mod Moves
+pub mod Checked
+pub mod Modes

@@ -1,0 +1,4 @@
+pub mod Grammar
+pub mod Predict
+pub mod Rules
+pub mod Modes

@@ -1,0 +1,6 @@
+use Rattle.std.proofs.Common.{◌≡◌, drop}
+use Rattle.ksh_kinds.specs.Words.{are_more, are_names, has_dot, path_front}
+use Rattle.ksh_kinds.proofs.words.has_dot.Given as goal
+
+abbrev pub invariant-loop-byte : goal.invariant-loop-byte
+invariant-loop-byte l = has_dot (drop l.byte-index l.word) ≡ has_dot l.word

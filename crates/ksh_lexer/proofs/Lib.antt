@@ -1,0 +1,13 @@
+pub mod Ansi
+pub mod Counts
+pub mod Digits
+pub mod Found
+pub mod Lines
+pub mod Longest
+pub mod Ordinary
+pub mod Present
+pub mod Runs
+pub mod Span
+pub mod Steps
+pub mod Unique
+pub mod Widths

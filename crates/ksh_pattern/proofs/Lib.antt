@@ -1,0 +1,7 @@
+pub mod Cuts
+pub mod Levels
+pub mod Walks
+pub mod Shifts
+pub mod Texts
+pub mod Tokens
+pub mod Buildings

@@ -1,0 +1,19 @@
+//! Patterns: `*`, `?`, brackets, and groups with their repetitions, against texts.
+#![tactic(auto)]
+
+mod build;
+mod byte_test;
+mod cell;
+mod marked;
+mod part;
+mod pattern;
+mod search;
+mod token;
+
+pub use byte_test::{ByteTest, Class, Member};
+pub use marked::Marked;
+pub use part::{Kind, Part};
+pub use pattern::Pattern;
+
+#[cfg(test)]
+mod tests;
