@@ -17,7 +17,12 @@ fn ask(alloc: Global, kernel: &mut Kernel, call: Call) -> Result<Option<Answer>,
 }
 
 // How many bytes a Read gives, or nothing where it waits.
-fn read(alloc: Global, kernel: &mut Kernel, handle: u32, max: u32) -> Result<Option<usize>, Memory> {
+fn read(
+    alloc: Global,
+    kernel: &mut Kernel,
+    handle: u32,
+    max: u32,
+) -> Result<Option<usize>, Memory> {
     let call = Call::Read {
         handle: Handle(handle),
         max,
