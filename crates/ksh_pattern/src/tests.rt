@@ -221,9 +221,10 @@ fn openings_without_an_end(rt: HostRuntime) -> Result<(), Fail> {
 fn no_pattern_takes_long(rt: HostRuntime) -> Result<(), Fail> {
     let alloc = rt.alloc();
     let text = repeated(alloc, b"a", 2_000, b"")?;
+    let short = repeated(alloc, b"a", 200, b"")?;
     assert!(rt; !matches(alloc, b"*a*a*a*a*a*[b]", text.as_slice())?);
     assert!(rt; !matches(alloc, b"+(+(+(a)))b", text.as_slice())?);
-    assert!(rt; matches(alloc, b"!(*b*)!(*c*)", &text.as_slice()[..200])?);
+    assert!(rt; matches(alloc, b"!(*b*)!(*c*)", short.as_slice())?);
     assert!(rt; !matches(alloc, b"*(?*(?*(?*(?)b|?)b|?)b|?)c", text.as_slice())?);
     Ok(())
 }
