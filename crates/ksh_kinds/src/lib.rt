@@ -12,6 +12,7 @@ mod tests {
     use super::*;
     use ksh_lexer::{LexMode, Lexer};
     use ksh_syntax::{Kind, Mode};
+    use std::alloc::Global;
     use std::test::Fail;
 
     #[test]
@@ -36,23 +37,31 @@ mod tests {
         Ok(())
     }
 
+    // The kind of a text's first token.
+    fn first(alloc: Global, text: &[u8]) -> Option<Kind> {
+        let Ok(mut lexer) = Lexer::new(alloc, text) else {
+            return None;
+        };
+        match lexer.next(LexMode::Command) {
+            Ok(token) => Some(kind_of(text, Mode::Command, token)),
+            Err(_) => None,
+        }
+    }
+
     #[test]
     fn tokens_of_a_text(rt: HostRuntime) -> Result<(), Fail> {
-        let text = b"x=(a) y=$z".as_slice();
-        let Ok(mut lexer) = Lexer::new(rt.alloc(), text) else {
-            return Err(Fail::from(ksh_base::Memory));
-        };
-        for kind in [
-            Kind::ValueOpen,
-            Kind::Open,
-            Kind::Name,
-            Kind::Close,
-            Kind::StartAssignment,
-        ] {
-            let Ok(token) = lexer.next(LexMode::Command) else {
-                return Err(Fail::from(ksh_base::Memory));
-            };
-            assert!(rt; kind_of(text, Mode::Command, token) == kind);
+        let rows: [(&[u8], Kind); 8] = [
+            (b"x=(a)", Kind::ValueOpen),
+            (b"x=y(", Kind::Assignment),
+            (b"(a", Kind::Open),
+            (b"y=$z", Kind::StartAssignment),
+            (b"a$z", Kind::Start),
+            (b"<<-E", Kind::HereRedirect),
+            (b"2>f", Kind::Redirect),
+            (b"a[1]=b", Kind::Element),
+        ];
+        for (text, kind) in rows {
+            assert!(rt; first(rt.alloc(), text) == Some(kind));
         }
         Ok(())
     }
