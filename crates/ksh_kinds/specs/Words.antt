@@ -109,8 +109,8 @@ abbrev pub is_assignment : List ℕ → Bool
 is_assignment w = is_path (path_front w) && assigns (drop (length (path_front w)) w)
 
 abbrev pub or_kind : Option Kind → Kind → Kind
-or_kind (Some k) shaped = k
-or_kind None shaped = shaped
+or_kind (Some k) l = k
+or_kind None l = l
 
 -- what the bytes are
 abbrev pub shape : List ℕ → Kind
