@@ -39,7 +39,7 @@ fn steps(alloc: Global, expr: &ArithExpr, numbers: &mut BTreeMap<Name, i64>) -> 
 }
 
 /// Runs `i = i * 3 + 1 & 1023` ten million times, and prints the last value.
-pub fn run(rt: &HostRuntime) -> anyhow::Result<()> {
+pub(crate) fn run(rt: &HostRuntime) -> anyhow::Result<()> {
     let alloc = rt.alloc();
     let expr = parse_arith(alloc, b"i = i * 3 + 1 & 1023")?;
     let mut numbers = BTreeMap::new(alloc);

@@ -106,7 +106,7 @@ fn seconds(time: Duration) -> f64 {
 }
 
 /// Prints the times.
-pub fn run(rt: &(impl Print + AllocGlobal + Clock)) -> Result<()> {
+pub(crate) fn run(rt: &(impl Print + AllocGlobal + Clock)) -> Result<()> {
     let alloc = rt.alloc();
     for size in [1u32, 4096] {
         let start = Instant::now(rt)?;

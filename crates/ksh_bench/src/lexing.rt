@@ -54,7 +54,7 @@ enum Progress {
     Done(End),
 }
 
-pub fn run(rt: &(impl Print + AllocGlobal + Clock), text: &[u8]) -> Result<()> {
+pub(crate) fn run(rt: &(impl Print + AllocGlobal + Clock), text: &[u8]) -> Result<()> {
     let start = Instant::now(rt)?;
     let (tokens, end) = lex(rt.alloc(), text)?;
     let micros = start.elapsed(rt)?.as_micros();

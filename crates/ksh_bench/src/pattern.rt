@@ -8,7 +8,7 @@ use std::time::{Clock, Instant};
 
 // Tells how often the pattern matched, and how many microseconds all took. The first line of the file is how often to match, the second the pattern, and
 // all that follows is the text.
-pub fn run(rt: &(impl Print + AllocGlobal + Clock), file: &[u8]) -> Result<()> {
+pub(crate) fn run(rt: &(impl Print + AllocGlobal + Clock), file: &[u8]) -> Result<()> {
     let (count, rest) = line(file);
     let (pattern, text) = line(rest);
     let count = number(count);

@@ -1,26 +1,34 @@
 -- How a reading goes on by a token.
-use Rattle.std.specs.Prelude.{◌≡◌, ◌<◌, ◌≤◌, ℕ, suc, Bool, true, false, nat_lt, not, ◌&&◌, List, [], ◌∷◌, ◌++◌, map, reverse, Option, Some, None, Ok, slice_get, option_and_then, if◌then◌else◌}
+use Rattle.std.specs.Prelude.{◌≡◌, ◌<◌, ◌≤◌, ℕ, suc, Bool, true, false, nat_lt, not, ◌&&◌, ◌||◌, List, [], ◌∷◌, ◌++◌, map, reverse, Option, Some, None, Ok, slice_get, option_and_then, if◌then◌else◌}
 use Rattle.std.proofs.Common.{refl, sym, ◌∙◌, ap, subst, append_assoc, append-nil, arith}
 use Rattle.std.proofs.lemmas.List.{map-append, reverse-append}
-use Rattle.std.proofs.lemmas.Bool.{lt-ltb, le-ltb}
+use Rattle.std.proofs.lemmas.Bool.{lt-ltb, le-ltb, eq-eqb}
 use Rattle.ksh_grammar.specs.declared.symbol.Symbol.TheVariants as left
 use Rattle.ksh_grammar.specs.Grammar.{Reads, IsLeft}
 use Rattle.ksh_grammar.specs.Modes.{with_mode, by_kind}
 use Rattle.ksh_grammar.specs.Rules.{at, opens, rule_at, IsRuleOf, chosen_by}
 use Rattle.ksh_grammar.proofs.Moves.{InHand, as_it_is, acted, none_left, taken, not_this, dead, opened, no_rule}
 use Rattle.ksh_grammar.proofs.Reading.{fits_rule}
+use Rattle.ksh_syntax.specs.declared.kind.Mode.{Mode}
 use Rattle.ksh_syntax.specs.declared.kind.Kind.{Kind}
 use Rattle.ksh_syntax.specs.declared.part.Terminal.{Terminal}
 use Rattle.ksh_syntax.specs.declared.part.Part as declared
 use Rattle.ksh_syntax.specs.declared.part.Mark.{Mark}
 use Rattle.ksh_syntax.specs.declared.reading.Next.TheVariants as next
 use Rattle.ksh_syntax.specs.declared.reading.Step.TheVariants as step
-use Rattle.ksh_syntax.specs.Takes.{takes, takes_in, same_mode}
+use Rattle.ksh_syntax.specs.Takes.{takes, takes_in, same_mode, mode_number}
 use Rattle.ksh_syntax.specs.Rules.{Rule, rules, mode_of}
 use Rattle.ksh_syntax.specs.Pick.{pick}
 use Rattle.ksh_syntax.specs.Bounds.{starts, follows, follows_in, empty}
 use Rattle.ksh_syntax.specs.Steps.{limit, Left, IsPut, IsRead}
-use Rattle.ksh_syntax.specs.Sentences.{Token, Event, Took, Marked, took, marked, anywhere, within_limit, script, FitsAll, Goes}
+use Rattle.ksh_syntax.specs.Sentences.{Token, Event, Took, Marked, took, marked, anywhere, within_limit, script, FitsAll, Goes, HasRead, IsLive, IsLiveWithin}
+use Rattle.std.specs.List.{list_all}
+use Rattle.ksh_grammar.specs.declared.symbol.Place.TheVariants as place
+use Rattle.ksh_grammar.proofs.Begins.{both}
+use Rattle.ksh_grammar.proofs.Checked.{all_at, from_implied}
+use Rattle.ksh_syntax.specs.declared.part.Terminal.TheVariants.{One, Any}
+use Rattle.ksh_syntax.proofs.Ends.{completed}
+use Rattle.ksh_syntax.proofs.Everything.{kinds, all_kinds, parts, all_parts}
 use Rattle.ksh_syntax.proofs.Predictive.{one_token}
 use Rattle.ksh_syntax.proofs.Weights.{front_weight, lighter}
 
@@ -41,20 +49,20 @@ allows_within d h = lt-ltb d limit h
 -- the marks that were passed with the token in hand, and what is left then
 pub record Passing (t : Token) (old now : Left) (passed : List Mark) : Type 0 where
   pub fits : FitsAll old → FitsAll now
-  pub hand : (may : ℕ → Bool) → Allows may → FitsAll old → (events : List Event) → Hand may old events t now (events ++ map Marked passed)
+  pub hand : (may : ℕ → Bool) → Allows may → FitsAll old → (m : Mode) (events : List Event) → Hand may old events (m, t.1) now (events ++ map Marked passed)
 
 pub passing_none : (t : Token) (old : Left) → Passing t old old []
 passing_none t old = record {
   fits = λ f. f;
-  hand = λ may a f events. subst (λ es. Hand may old events t old es) (sym (append-nil events)) (as_it_is (λ (u : Token). u) (with_mode takes_in takes) (IsRuleOf rules may) took marked old events t);
+  hand = λ may a f n events. subst (λ es. Hand may old events (n, t.1) old es) (sym (append-nil events)) (as_it_is (λ (u : Token). u) (with_mode takes_in takes) (IsRuleOf rules may) took marked old events (n, t.1));
 }
 
 pub passing_mark : (t : Token) (old rest : Left) (passed : List Mark) (m : Mark) → Passing t old (left.Make m ∷ rest) passed → Passing t old rest (passed ++ m ∷ [])
 passing_mark t old rest passed m h = record {
   fits = h.fits;
-  hand = λ may a f events.
-      subst (λ es. Hand may old events t rest es) (append_assoc events (map Marked passed) (Marked m ∷ []) ∙ ap (λ xs. events ++ xs) (sym (map-append Marked passed (m ∷ []))))
-      (acted (λ (u : Token). u) (with_mode takes_in takes) (IsRuleOf rules may) took marked m rest (events ++ map Marked passed) (h.hand may a f events));
+  hand = λ may a f n events.
+      subst (λ es. Hand may old events (n, t.1) rest es) (append_assoc events (map Marked passed) (Marked m ∷ []) ∙ ap (λ xs. events ++ xs) (sym (map-append Marked passed (m ∷ []))))
+      (acted (λ (u : Token). u) (with_mode takes_in takes) (IsRuleOf rules may) took marked m rest (events ++ map Marked passed) (h.hand may a f n events));
 }
 
 -- the rule that the token picks is among those of the part, wherever it may stand
@@ -75,10 +83,10 @@ passing_part t old rest passed p d rule h e o = record {
   fits = λ f. fits_rule (λ (u : Token). u) (with_mode takes_in takes) (IsRuleOf rules anywhere) took marked
       (with_mode (λ q m. same_mode (mode_of q) m) starts) (with_mode follows_in follows) empty (by_kind (chosen_by rules anywhere pick)) (one_token anywhere)
       p d (map (at d) rule) rest (h.fits f) (pick p t.1, rule, e, (λ _. refl), refl);
-  hand = λ may a f events.
+  hand = λ may a f n events.
       opened (λ (u : Token). u) (with_mode takes_in takes) (IsRuleOf rules may) took marked
       (with_mode (λ q m. same_mode (mode_of q) m) starts) (with_mode follows_in follows) empty (by_kind (chosen_by rules may pick)) (one_token may)
-      p d rest (map (at d) rule) (events ++ map Marked passed) (h.hand may a f events) (h.fits f) (picked_rule may p d t.1 rule e (λ q. a d (o q)));
+      p d rest (map (at d) rule) (events ++ map Marked passed) (h.hand may a f n events) (h.fits f) (picked_rule may p d t.1 rule e (λ q. a d (o q)));
 }
 
 pub goes_taken : (t : Token) (old new : Left) (before after passed : List Mark) (c : Terminal) (rest : Left)
@@ -88,9 +96,9 @@ goes_taken t old new before after passed c rest h e p k = (
   p,
   λ front events r. record {
     rest = subst (λ xs. IsLeft (λ (u : Token). u) (with_mode takes_in takes) (IsRuleOf rules anywhere) took marked script (front ++ t ∷ []) [] xs ((events ++ map Marked passed) ++ Took t ∷ [])) (sym e)
-        (taken (λ (u : Token). u) (with_mode takes_in takes) (IsRuleOf rules anywhere) took marked script front [] c rest (events ++ map Marked passed) r.rest (h.hand anywhere allows_anywhere r.fits events) k);
+        (taken (λ (u : Token). u) (with_mode takes_in takes) (IsRuleOf rules anywhere) took marked script front [] c rest (events ++ map Marked passed) r.rest (h.hand anywhere allows_anywhere r.fits t.0 events) k);
     within = subst (λ xs. IsLeft (λ (u : Token). u) (with_mode takes_in takes) (IsRuleOf rules within_limit) took marked script (front ++ t ∷ []) [] xs ((events ++ map Marked passed) ++ Took t ∷ [])) (sym e)
-        (taken (λ (u : Token). u) (with_mode takes_in takes) (IsRuleOf rules within_limit) took marked script front [] c rest (events ++ map Marked passed) r.within (h.hand within_limit allows_within r.fits events) k);
+        (taken (λ (u : Token). u) (with_mode takes_in takes) (IsRuleOf rules within_limit) took marked script front [] c rest (events ++ map Marked passed) r.within (h.hand within_limit allows_within r.fits t.0 events) k);
     fits = subst FitsAll (sym e) (h.fits r.fits);
   },
 )
@@ -98,13 +106,13 @@ goes_taken t old new before after passed c rest h e p k = (
 pub goes_none : (t : Token) (old new : Left) (before after passed : List Mark) → Passing t (reverse old) [] passed → Goes t old new before after next.Refused
 goes_none t old new before after passed h front events r =
     dead (λ (u : Token). u) (with_mode takes_in takes) (IsRuleOf rules anywhere) took marked script front [] (reverse old) events t r.rest
-    (none_left (λ (u : Token). u) (with_mode takes_in takes) (IsRuleOf rules anywhere) took marked (reverse old) events t (events ++ map Marked passed) (h.hand anywhere allows_anywhere r.fits events))
+    (none_left (λ (u : Token). u) (with_mode takes_in takes) (IsRuleOf rules anywhere) took marked (reverse old) events t (events ++ map Marked passed) (h.hand anywhere allows_anywhere r.fits t.0 events))
 
 pub goes_not_this : (t : Token) (old new : Left) (before after passed : List Mark) (c : Terminal) (rest : Left)
     → Passing t (reverse old) (left.Token c ∷ rest) passed → with_mode takes_in takes c t ≡ false → Goes t old new before after next.Refused
 goes_not_this t old new before after passed c rest h k front events r =
     dead (λ (u : Token). u) (with_mode takes_in takes) (IsRuleOf rules anywhere) took marked script front [] (reverse old) events t r.rest
-    (not_this (λ (u : Token). u) (with_mode takes_in takes) (IsRuleOf rules anywhere) took marked (reverse old) events t c rest (events ++ map Marked passed) (h.hand anywhere allows_anywhere r.fits events) (λ yes. differ k yes))
+    (not_this (λ (u : Token). u) (with_mode takes_in takes) (IsRuleOf rules anywhere) took marked (reverse old) events t c rest (events ++ map Marked passed) (h.hand anywhere allows_anywhere r.fits t.0 events) (λ yes. differ k yes))
   where
     differ : {b : Bool} → b ≡ false → b ≡ true → ⊥
     differ x y = cc
@@ -115,16 +123,71 @@ goes_no_rule t old new before after passed p d rest h e front events r =
     dead (λ (u : Token). u) (with_mode takes_in takes) (IsRuleOf rules anywhere) took marked script front [] (reverse old) events t r.rest
     (no_rule (λ (u : Token). u) (with_mode takes_in takes) (IsRuleOf rules anywhere) took marked
     (with_mode (λ q m. same_mode (mode_of q) m) starts) (with_mode follows_in follows) empty (by_kind (chosen_by rules anywhere pick)) (one_token anywhere)
-    (reverse old) events t p d rest (events ++ map Marked passed) (h.hand anywhere allows_anywhere r.fits events) (h.fits r.fits) (no_picked anywhere p d t.1 e))
+    (reverse old) events t p d rest (events ++ map Marked passed) (h.hand anywhere allows_anywhere r.fits t.0 events) (h.fits r.fits) (no_picked anywhere p d t.1 e))
+
+-- a rule that opens something begins with a token of the kind that picks it
+abbrev first_takes : Rule → Kind → Bool
+first_takes [] k = false
+first_takes (place.Token c ∷ rule) k = takes c k
+first_takes (place.Part p ∷ rule) k = false
+first_takes (place.Inside p ∷ rule) k = false
+first_takes (place.Make m ∷ rule) k = false
+
+abbrev opening_fits : Option Rule → Kind → Bool
+opening_fits None k = true
+opening_fits (Some rule) k = not (opens rule) || first_takes rule k
+
+openings_fit : list_all (λ p. list_all (λ k. opening_fits (slice_get (rules p) (pick p k)) k) kinds) parts ≡ true
+openings_fit = refl
+
+opening_takes : (p : declared.Part) (k : Kind) (rule : Rule) → slice_get (rules p) (pick p k) ≡ Some rule → opens rule ≡ true → first_takes rule k ≡ true
+opening_takes p k rule e o =
+    let each = all_at (λ q. list_all (λ l. opening_fits (slice_get (rules q) (pick q l)) l) kinds) parts (all_parts p).0 p (all_parts p).1 openings_fit in
+    let one = all_at (λ l. opening_fits (slice_get (rules p) (pick p l)) l) kinds (all_kinds k).0 k (all_kinds k).1 each in
+    from_implied (opens rule) (first_takes rule k) (subst (λ x. opening_fits x k ≡ true) e one) o
+
+own_mode : Terminal → Mode
+own_mode (One m k) = m
+own_mode (Any m ws) = m
+
+in_own_mode : (c : Terminal) → takes_in c (own_mode c) ≡ true
+unfolding own_mode
+in_own_mode (One m k) = eq-eqb (mode_number m) (mode_number m) refl
+in_own_mode (Any m ws) = eq-eqb (mode_number m) (mode_number m) refl
+
+-- a token of the kind, read in the mode of the rule's first place, is one with which a script goes on
+opening_live_by : (t : Token) (old : Left) (passed : List Mark) (p : declared.Part) (d : ℕ) (rest : Left) (rule : Rule)
+    → Passing t (reverse old) (left.Part p d ∷ rest) passed → slice_get (rules p) (pick p t.1) ≡ Some rule → first_takes rule t.1 ≡ true
+    → (front : List Token) (events : List Event) → HasRead front old events → (m : Mode) × IsLive (front ++ (m, t.1) ∷ [])
+opening_live_by t old passed p d rest [] h e first front events r = cc
+opening_live_by t old passed p d rest (place.Part q ∷ rule) h e first front events r = cc
+opening_live_by t old passed p d rest (place.Inside q ∷ rule) h e first front events r = cc
+opening_live_by t old passed p d rest (place.Make a ∷ rule) h e first front events r = cc
+opening_live_by t old passed p d rest (place.Token c ∷ rule) h e first front events r =
+    let u : Token = (own_mode c, t.1) in
+    let hand = opened (λ (u : Token). u) (with_mode takes_in takes) (IsRuleOf rules anywhere) took marked
+    (with_mode (λ q m. same_mode (mode_of q) m) starts) (with_mode follows_in follows) empty (by_kind (chosen_by rules anywhere pick)) (one_token anywhere)
+    p d rest (map (at d) (place.Token c ∷ rule)) (events ++ map Marked passed) (h.hand anywhere allows_anywhere r.fits (own_mode c) events) (h.fits r.fits) (picked_rule anywhere p d t.1 (place.Token c ∷ rule) e (λ q. refl)) in
+    let after = taken (λ (u : Token). u) (with_mode takes_in takes) (IsRuleOf rules anywhere) took marked script front [] c (map (at d) rule ++ rest) (events ++ map Marked passed) r.rest hand
+    (both (takes_in c (own_mode c)) (takes c t.1) (in_own_mode c) first) in
+    let more = completed (map (at d) rule ++ rest) (took u (events ++ map Marked passed)) in
+    (own_mode c, (more.0, more.1, after.goes_on more.0 more.1 more.2))
+
+opening_live : (t : Token) (old : Left) (passed : List Mark) (p : declared.Part) (d : ℕ) (rest : Left) (rule : Rule)
+    → Passing t (reverse old) (left.Part p d ∷ rest) passed → slice_get (rules p) (pick p t.1) ≡ Some rule → opens rule ≡ true
+    → (front : List Token) (events : List Event) → HasRead front old events → (m : Mode) × IsLive (front ++ (m, t.1) ∷ [])
+opening_live t old passed p d rest rule h e o = opening_live_by t old passed p d rest rule h e (opening_takes p t.1 rule e o)
 
 pub goes_too_deep : (t : Token) (old new : Left) (before after passed : List Mark) (p : declared.Part) (d : ℕ) (rest : Left) (rule : Rule)
     → Passing t (reverse old) (left.Part p d ∷ rest) passed → slice_get (rules p) (pick p t.1) ≡ Some rule → opens rule ≡ true → limit ≤ d → Goes t old new before after next.TooDeep
-goes_too_deep t old new before after passed p d rest rule h e o deep front events r live =
-    no_rule (λ (u : Token). u) (with_mode takes_in takes) (IsRuleOf rules within_limit) took marked
-    (with_mode (λ q m. same_mode (mode_of q) m) starts) (with_mode follows_in follows) empty (by_kind (chosen_by rules within_limit pick)) (one_token within_limit)
-    (reverse old) events t p d rest (events ++ map Marked passed) (h.hand within_limit allows_within r.fits events) (h.fits r.fits)
-    (ap (λ x. option_and_then (λ y. rule_at rules within_limit y d) x) e ∙ forbidden (opens rule) (nat_lt d limit) (map (at d) rule) o (not_less d deep))
-    live.0 live.1 (r.within.only_so (t ∷ live.0) live.1 (subst (λ xs. Reads (λ (u : Token). u) (with_mode takes_in takes) (IsRuleOf rules within_limit) took marked script xs [] live.1) (append_assoc front (t ∷ []) live.0) live.2))
+goes_too_deep t old new before after passed p d rest rule h e o deep front events r = (
+  (λ live. no_rule (λ (u : Token). u) (with_mode takes_in takes) (IsRuleOf rules within_limit) took marked
+      (with_mode (λ q m. same_mode (mode_of q) m) starts) (with_mode follows_in follows) empty (by_kind (chosen_by rules within_limit pick)) (one_token within_limit)
+      (reverse old) events t p d rest (events ++ map Marked passed) (h.hand within_limit allows_within r.fits t.0 events) (h.fits r.fits)
+      (ap (λ x. option_and_then (λ y. rule_at rules within_limit y d) x) e ∙ forbidden (opens rule) (nat_lt d limit) (map (at d) rule) o (not_less d deep))
+      live.0 live.1 (r.within.only_so (t ∷ live.0) live.1 (subst (λ xs. Reads (λ (u : Token). u) (with_mode takes_in takes) (IsRuleOf rules within_limit) took marked script xs [] live.1) (append_assoc front (t ∷ []) live.0) live.2))),
+  opening_live t old passed p d rest rule h e o front events r,
+)
   where
     forbidden : {X : Type 0} (a b : Bool) (x : X) → a ≡ true → b ≡ false → (if a && not b then None else Some x) ≡ None
     forbidden true true x p q = cc

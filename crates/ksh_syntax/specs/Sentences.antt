@@ -67,13 +67,15 @@ pub record HasRead (front : List Token) (left : Left) (events : List Event) : Ty
   pub within : IsLeft (λ (t : Token). t) (with_mode takes_in takes) (IsRuleOf rules within_limit) took marked script front [] (reverse left) events
   pub fits : FitsAll (reverse left)
 
--- What becomes of a reading by a token: it is read, or no script goes on with it, or none without too many openings.
+-- What becomes of a reading by a token: it is read, or no script goes on with it, or some script goes on with its kind, but none
+-- without too many openings.
 abbrev pub Goes : Token → Left → Left → List Mark → List Mark → Next → Type 0
 Goes t old new before after Taken =
     (passed : List Mark) × (after ≡ before ++ passed)
     × ((front : List Token) (events : List Event) → HasRead front old events → HasRead (front ++ t ∷ []) new ((events ++ map Marked passed) ++ Took t ∷ []))
 Goes t old new before after Refused = (front : List Token) (events : List Event) → HasRead front old events → IsLive (front ++ t ∷ []) → ⊥
-Goes t old new before after TooDeep = (front : List Token) (events : List Event) → HasRead front old events → IsLiveWithin (front ++ t ∷ []) → ⊥
+Goes t old new before after TooDeep = (front : List Token) (events : List Event) → HasRead front old events
+    → (IsLiveWithin (front ++ t ∷ []) → ⊥) × ((m : Mode) × IsLive (front ++ (m, t.1) ∷ []))
 
 abbrev pub GoesOn : Token → Left → Left → List Mark → List Mark → Result Next Memory → Type 0
 GoesOn t old new before after (Ok next) = Goes t old new before after next
