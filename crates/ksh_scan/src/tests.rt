@@ -1,6 +1,6 @@
 // Texts and their first faults. What is expected comes from the grammar and its places, not from the program.
 use crate::{SyntaxRefused, check_text};
-use ksh_base::Place;
+use ksh_base::{Memory, Place, Text};
 use ksh_lexer::{SyntaxFault, SyntaxKind};
 use std::alloc::Global;
 use std::test::Fail;
@@ -159,5 +159,28 @@ fn other_faults(rt: HostRuntime) -> Result<(), Fail> {
     for (text, kind, line, byte) in rows {
         assert!(rt; has_fault(alloc, text, kind, line, byte));
     }
+    Ok(())
+}
+
+// So many braces inside one another.
+fn nested(alloc: Global, count: usize) -> Result<Text, Memory> {
+    let mut text = Text::empty(alloc);
+    for _ in 0..count {
+        text.append(b"{ ")?;
+    }
+    text.append(b"a\n")?;
+    for _ in 0..count {
+        text.append(b"}\n")?;
+    }
+    Ok(text)
+}
+
+#[test]
+fn sixty_four_openings_stand(rt: HostRuntime) -> Result<(), Fail> {
+    let alloc = rt.alloc();
+    let deep = nested(alloc, 64)?;
+    assert!(rt; is_fine(alloc, deep.bytes()));
+    let deeper = nested(alloc, 65)?;
+    assert!(rt; has_fault(alloc, deeper.bytes(), SyntaxKind::TooDeep, 1, 128));
     Ok(())
 }
