@@ -83,8 +83,8 @@ fn lex(alloc: Global, text: &[u8]) -> Result<(u64, End), Memory> {
                 Ok(Some(body)) => {
                     let inside = top.lexer.inside(alloc, body);
                     let mode = LexMode::HereBody {
-                        tabs: true,
-                        expands: true,
+                        tabs: body.tabs,
+                        expands: body.expands,
                     };
                     let next = begin_level(alloc, top.text, inside);
                     levels.push(next)?;
@@ -208,6 +208,7 @@ fn await_body(level: &mut Level, operator: u32, tabs: bool, word: Text) -> Resul
         operator,
         word,
         tabs,
+        expands: true,
     })
 }
 

@@ -5,6 +5,7 @@ mod arith;
 mod kernel;
 mod lexing;
 mod pattern;
+mod scanning;
 
 use ksh_base::{FileSource, Text, read_script};
 use std::env;
@@ -31,6 +32,7 @@ fn main(rt: HostRuntime) -> anyhow::Result<ExitCode> {
             match part.as_str() {
                 "lexing" => lexing::run(&rt, text.bytes())?,
                 "pattern" => pattern::run(&rt, text.bytes())?,
+                "scanning" => scanning::run(&rt, text.bytes())?,
                 _ => return Ok(ExitCode::from(2)),
             }
         }

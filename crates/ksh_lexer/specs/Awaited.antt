@@ -13,7 +13,7 @@ Lexing = List ℕ × ℕ × List HereDocument
 
 -- a body goes from a place to the line that ends it, and the text goes on behind that line
 abbrev pub IsBody : List ℕ → HereDocument → ℕ → Body → ℕ → Type 0
-IsBody text h from body behind = (body.from ≡ from) × IsEnd text h.word h.tabs from body.to × IsBehindLine text body.to behind
+IsBody text h from body behind = (body.from ≡ from) × (body.tabs ≡ h.tabs) × (body.expands ≡ h.expands) × IsEnd text h.word h.tabs from body.to × IsBehindLine text body.to behind
 
 -- no line from a place on ends the body
 abbrev pub HasNoBody : List ℕ → HereDocument → ℕ → SyntaxFault → Type 0
@@ -35,3 +35,8 @@ MissesIn old [] f = ⊥
 -- the body that is awaited first has no end
 abbrev pub Misses : Lexing → SyntaxFault → Type 0
 Misses old f = MissesIn old old.2 f
+
+-- the fault of a text that ends before the body that is awaited first
+abbrev pub missing : List ℕ → List HereDocument → Option SyntaxFault
+missing text [] = None
+missing text (h ∷ more) = Some (fault_at text HereDocMissing h.operator)

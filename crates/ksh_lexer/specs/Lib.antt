@@ -6,6 +6,7 @@ pub mod Brackets
 pub mod Bytes
 pub mod Class
 pub mod Clear
+pub mod EndWord
 pub mod Escapes
 pub mod Faults
 pub mod Inside

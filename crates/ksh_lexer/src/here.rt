@@ -16,6 +16,8 @@ pub struct HereDocument {
     pub word: Text,
     /// Whether tabs at the start of its lines are removed.
     pub tabs: bool,
+    /// Whether the body holds expansions: no part of the word was quoted.
+    pub expands: bool,
 }
 
 /// The bytes of a here-document's body: those from one place of the text to another.
@@ -23,6 +25,10 @@ pub struct HereDocument {
 pub struct Body {
     pub from: usize,
     pub to: usize,
+    /// Whether tabs at the start of its lines are removed.
+    pub tabs: bool,
+    /// Whether it holds expansions.
+    pub expands: bool,
 }
 
 /// The first line at a place where a line begins, or behind it, that is the word.

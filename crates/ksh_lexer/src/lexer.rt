@@ -1,5 +1,5 @@
 ghost use Rattle.std.specs.Prelude.{◌≡◌, ◌≢◌, ℕ, [], ◌∷◌, ◌++◌, ◌+◌, ◌<◌, ◌≤◌, ◌↔◌, List, length, take, drop, Some, None, Ok, IfOk, IfErr, OnOk, OnErr, IsErrOf, IsOk};
-ghost use Rattle.ksh_lexer.specs.Awaited.{HasNoBody, IsBody, Misses, Takes};
+ghost use Rattle.ksh_lexer.specs.Awaited.{HasNoBody, IsBody, Misses, Takes, missing};
 ghost use Rattle.ksh_lexer.specs.Place.{fault_at, longest_text, newlines, too_long};
 ghost use Rattle.ksh_lexer.specs.Tok.{Comes, IsFault, Tok};
 ghost use Rattle.ksh_lexer.specs.declared.fault.SyntaxKind.TheVariants as SyntaxKind;
@@ -66,12 +66,20 @@ impl<'a> Lexer<'a> {
         })
     }
 
+    /// The whole text.
+    pub fn text(&self) -> &'a [u8]
+        ensures { result.now ≡ self.now.0 }
+    {
+        self.text
+    }
+
     /// The token that comes next under the mode, or the fault where none does. A fault leaves the
     /// lexer as it was. Takes no memory.
     pub fn next(&mut self, mode: LexMode) -> Result<Token, SyntaxFault>
         ensures token { IfOk result (λ t. Tok mode self.old.0 self.old.1 t) }
         ensures place { IfOk result (λ t. self.new ≡ (self.old.0, t.to, self.old.2)) }
         ensures within { IfOk result (λ t. (self.old.1 ≤ t.from) × (t.from ≤ t.to) × (t.to ≤ length self.old.0)) }
+        ensures size { length self.old.0 ≤ longest_text }
         ensures fault { IfErr result (λ f. IsFault mode self.old.0 self.old.1 f.kind f.place.byte) }
         ensures line { IfErr result (λ f. f ≡ fault_at self.old.0 f.kind f.place.byte) }
         ensures err { OnErr result (self.new ≡ self.old) }
@@ -92,6 +100,26 @@ impl<'a> Lexer<'a> {
     {
         self.here.push(here)?;
         Ok(())
+    }
+
+    /// The fault of a text that ends before a body which is awaited: `HereDocMissing` at the operator of the first. None
+    /// where no body is awaited. Takes no memory.
+    pub fn missing(&self) -> Option<SyntaxFault>
+        ensures { result ≡ missing self.now.0 self.now.2 }
+    {
+        if self.begun >= self.here.len() {
+            return None;
+        }
+        let here = &self.here.as_slice()[self.begun];
+        Some(fault_at(self.text, SyntaxKind::HereDocMissing, here.operator))
+    }
+
+    /// Goes to another place of the text. Takes no memory.
+    pub fn go_to(&mut self, at: usize)
+        requires { at ≤ length self.old.0 }
+        ensures { self.new ≡ (self.old.0, at, self.old.2) }
+    {
+        self.at = at;
     }
 
     /// Takes the body that is awaited first, which begins at the lexer's place, and goes on behind the
@@ -163,7 +191,15 @@ fn take_one(text: &[u8], from: usize, here: &HereDocument) -> Result<(Body, usiz
     ensures missing { IfErr result (λ f. HasNoBody text.now here.now from f) }
 {
     match find_end(text, here.word.bytes(), here.tabs, from) {
-        Some(to) => Ok((Body { from, to }, behind_line(text, to))),
+        Some(to) => {
+            let body = Body {
+                from,
+                to,
+                tabs: here.tabs,
+                expands: here.expands,
+            };
+            Ok((body, behind_line(text, to)))
+        }
         None => Err(fault_at(text, SyntaxKind::HereDocMissing, here.operator)),
     }
 }

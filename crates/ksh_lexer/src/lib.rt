@@ -3,6 +3,7 @@
 
 mod bracket;
 mod count;
+mod end_line;
 mod fault;
 mod here;
 mod kind;
@@ -19,6 +20,7 @@ mod table;
 mod tests;
 mod unquote;
 
+pub use end_line::{end_word, is_quoted};
 pub use fault::{SyntaxFault, SyntaxKind};
 pub use here::{Body, HereDocument};
 pub use kind::{Descriptor, Form, Operator, Redirection, Token, TokenKind};

@@ -314,7 +314,17 @@ fn here(alloc: Global, operator: u32, word: &[u8], tabs: bool) -> Result<HereDoc
         operator,
         word: Text::of(alloc, word)?,
         tabs,
+        expands: true,
     })
+}
+
+fn body(from: usize, to: usize, tabs: bool) -> Body {
+    Body {
+        from,
+        to,
+        tabs,
+        expands: true,
+    }
 }
 
 #[test]
@@ -327,8 +337,8 @@ fn bodies_come_in_the_order_of_their_operators(rt: HostRuntime) -> Result<(), Fa
     for _ in 0..5 {
         lexer.next(LexMode::Argument)?;
     }
-    let first = Body { from: 9, to: 14 };
-    let second = Body { from: 18, to: 21 };
+    let first = body(9, 14, true);
+    let second = body(18, 21, false);
     assert!(rt; lexer.take_body() == Ok(Some(first)));
     assert!(rt; lexer.take_body() == Ok(Some(second)));
     assert!(rt; lexer.take_body() == Ok(None));
@@ -341,6 +351,7 @@ fn bodies_come_in_the_order_of_their_operators(rt: HostRuntime) -> Result<(), Fa
         place: Place { line: 6, byte: 23 },
     };
     assert!(rt; lexer.take_body() == Err(missing));
+    assert!(rt; lexer.missing() == Some(missing));
     assert!(rt; lexer.fault(SyntaxKind::HereDocMissing, 23) == missing);
     Ok(())
 }

@@ -38,7 +38,7 @@ fn plain_len(bytes: &[u8]) -> usize
 
 /// The byte for which a backslash before these bytes stands, and how many of them belong to it. A
 /// backslash that quotes nothing stands for itself.
-fn escape(behind: &[u8]) -> (u8, usize)
+pub(crate) fn escape(behind: &[u8]) -> (u8, usize)
     ensures escape { result ≡ escape behind.now }
     ensures within { result.1 ≤ length behind.now }
 {

@@ -1,12 +1,13 @@
 -- The laws of readings.
-use Rattle.std.specs.Prelude.{◌≡◌, ◌<◌, ◌≤◌, ◌-◌, ℕ, suc, Bool, true, false, not, ◌&&◌, ◌||◌, List, [], ◌∷◌, ◌++◌, reverse, take, length, slice_get, slice_index_or}
-use Rattle.std.proofs.Common.{refl, sym, ◌∙◌, ap, subst, append_assoc, arith}
+use Rattle.std.specs.Prelude.{◌≡◌, ◌<◌, ◌≤◌, ◌-◌, ℕ, suc, Bool, true, false, not, ◌&&◌, ◌||◌, List, [], ◌∷◌, ◌++◌, reverse, map, take, length, slice_get, slice_index_or}
+use Rattle.std.proofs.Common.{refl, sym, ◌∙◌, ap, subst, append_assoc, append-nil, arith}
 use Rattle.std.proofs.Math.Seq.{take-suc}
 use Rattle.std.proofs.lemmas.List.{reverse-append}
 use Rattle.std.proofs.lemmas.Bool.{eqb-true}
 use Rattle.std.specs.List.{list_all}
 use Rattle.ksh_grammar.specs.declared.symbol.Symbol.{Symbol}
 use Rattle.ksh_grammar.specs.declared.symbol.Symbol.TheVariants.{Token, Part, Make}
+use Rattle.ksh_grammar.specs.Grammar.{nothing}
 use Rattle.ksh_grammar.specs.Modes.{with_mode, by_kind}
 use Rattle.ksh_grammar.specs.Predict.{may_begin}
 use Rattle.ksh_grammar.specs.Rules.{IsRuleOf, chosen_by}
@@ -25,7 +26,8 @@ use Rattle.ksh_syntax.specs.Pick.{pick}
 use Rattle.ksh_syntax.specs.Bounds.{starts, follows, follows_in, empty}
 use Rattle.ksh_syntax.specs.Steps.{Left}
 use Rattle.ksh_syntax.specs.Sentences as sentences
-use Rattle.ksh_syntax.specs.Sentences.{Event, Tells, anywhere, took, marked, script, FitsAll, HasRead, IsLive}
+use Rattle.ksh_syntax.specs.declared.reading.Next.TheVariants as next
+use Rattle.ksh_syntax.specs.Sentences.{Event, Took, Marked, Goes, Tells, anywhere, took, marked, script, FitsAll, HasRead, IsLive, IsScript, MayCome}
 use Rattle.ksh_syntax.proofs.Ends.{completed}
 use Rattle.ksh_syntax.proofs.Everything.{modes, all_modes, mode_at, parts, all_parts}
 use Rattle.ksh_syntax.proofs.Predictive.{one_token}
@@ -43,6 +45,33 @@ pub live : (front : List sentences.Token) (left : Left) (events : List Event) �
 live front left events h =
     let c = completed (reverse left) events in
     (c.0, c.1, h.rest.goes_on c.0 c.1 c.2)
+
+none_left : (left : Left) → length left ≡ 0 → left ≡ []
+none_left [] e = refl
+none_left (s ∷ left) e = cc
+
+-- where nothing is left, what was read is a script
+pub finished_script : (front : List sentences.Token) (left : Left) (events : List Event) → length left ≡ 0 → HasRead front left events → IsScript front events
+finished_script front left events none h =
+    let e = none_left left none in
+    let ends : Tells anywhere (reverse left) [] events events = subst (λ l. Tells anywhere (reverse l) [] events events) (sym e) nothing in
+    subst (λ xs. Tells anywhere script xs [] events) (append-nil front) (h.rest.goes_on [] events ends)
+
+-- a token of the kind may come where one was read, or would be but for the openings, and nowhere else
+pub comes_taken : (m : Mode) (k : Kind) (old trial new : Left) (before after : List Mark) → trial ≡ old → Goes (m, k) trial new before after next.Taken
+    → (front : List sentences.Token) (events : List Event) → HasRead front old events → MayCome front k
+comes_taken m k old trial new before after e g front events h =
+    (m, live (front ++ (m, k) ∷ []) new ((events ++ map Marked g.0) ++ Took (m, k) ∷ []) (g.2 front events (subst (λ l. HasRead front l events) (sym e) h)))
+
+pub comes_deep : (m : Mode) (k : Kind) (old trial new : Left) (before after : List Mark) → trial ≡ old → Goes (m, k) trial new before after next.TooDeep
+    → (front : List sentences.Token) (events : List Event) → HasRead front old events → MayCome front k
+comes_deep m k old trial new before after e g front events h = (g front events (subst (λ l. HasRead front l events) (sym e) h)).1
+
+pub comes_not : (m : Mode) (k : Kind) (old trial new : Left) (before after : List Mark) → trial ≡ old → Goes (m, k) trial new before after next.Refused
+    → ((front : List sentences.Token) (events : List Event) (n : Mode) (l : Kind) → HasRead front old events → IsLive (front ++ (n, l) ∷ []) → n ≡ m)
+    → (front : List sentences.Token) (events : List Event) → HasRead front old events → MayCome front k → ⊥
+comes_not m k old trial new before after e g one front events h may =
+    g front events (subst (λ l. HasRead front l events) (sym e) h) (subst (λ n. IsLive (front ++ (n, k) ∷ [])) (one front events may.0 k h may.1) may.1)
 
 -- where a part may be empty, what comes after it is read in its mode
 empty_in_mode : list_all (λ p. not (empty p) || list_all (λ m. not (follows_in p m) || same_mode (mode_of p) m) modes) parts ≡ true

@@ -10,6 +10,7 @@ use Rattle.ksh_grammar.specs.Rules.{at, opens, rule_at, IsRuleOf, chosen_by}
 use Rattle.ksh_grammar.proofs.Moves.{InHand, as_it_is, acted, none_left, taken, not_this, dead, opened, no_rule}
 use Rattle.ksh_grammar.proofs.Reading.{fits_rule}
 use Rattle.ksh_syntax.specs.declared.kind.Mode.{Mode}
+use Rattle.ksh_syntax.specs.declared.kind.Mode.TheVariants as mode
 use Rattle.ksh_syntax.specs.declared.kind.Kind.{Kind}
 use Rattle.ksh_syntax.specs.declared.part.Terminal.{Terminal}
 use Rattle.ksh_syntax.specs.declared.part.Part as declared
@@ -125,13 +126,13 @@ goes_no_rule t old new before after passed p d rest h e front events r =
     (with_mode (λ q m. same_mode (mode_of q) m) starts) (with_mode follows_in follows) empty (by_kind (chosen_by rules anywhere pick)) (one_token anywhere)
     (reverse old) events t p d rest (events ++ map Marked passed) (h.hand anywhere allows_anywhere r.fits t.0 events) (h.fits r.fits) (no_picked anywhere p d t.1 e))
 
--- a rule that opens something begins with a token of the kind that picks it
+-- a rule that opens something begins with a token of the kind that picks it, perhaps behind actions
 abbrev first_takes : Rule → Kind → Bool
 first_takes [] k = false
 first_takes (place.Token c ∷ rule) k = takes c k
 first_takes (place.Part p ∷ rule) k = false
 first_takes (place.Inside p ∷ rule) k = false
-first_takes (place.Make m ∷ rule) k = false
+first_takes (place.Make m ∷ rule) k = first_takes rule k
 
 abbrev opening_fits : Option Rule → Kind → Bool
 opening_fits None k = true
@@ -155,23 +156,54 @@ unfolding own_mode
 in_own_mode (One m k) = eq-eqb (mode_number m) (mode_number m) refl
 in_own_mode (Any m ws) = eq-eqb (mode_number m) (mode_number m) refl
 
--- a token of the kind, read in the mode of the rule's first place, is one with which a script goes on
+-- the mode in which that token is read
+first_mode : Rule → Mode
+first_mode [] = mode.Command
+first_mode (place.Token c ∷ rule) = own_mode c
+first_mode (place.Part p ∷ rule) = mode.Command
+first_mode (place.Inside p ∷ rule) = mode.Command
+first_mode (place.Make m ∷ rule) = first_mode rule
+
+first_in : Rule → Mode → Bool
+first_in [] m = false
+first_in (place.Token c ∷ rule) m = takes_in c m
+first_in (place.Part p ∷ rule) m = false
+first_in (place.Inside p ∷ rule) m = false
+first_in (place.Make a ∷ rule) m = first_in rule m
+
+in_first_mode : (rule : Rule) (k : Kind) → first_takes rule k ≡ true → first_in rule (first_mode rule) ≡ true
+unfolding first_mode first_in
+in_first_mode [] k first = cc
+in_first_mode (place.Part q ∷ rule) k first = cc
+in_first_mode (place.Inside q ∷ rule) k first = cc
+in_first_mode (place.Make a ∷ rule) k first = in_first_mode rule k first
+in_first_mode (place.Token c ∷ rule) k first = in_own_mode c
+
+-- what is left begins with a rule whose first token is in hand
+live_by : (u : Token) (old : Left) (front : List Token) (events now : List Event) (d : ℕ) (rule : Rule) (rest : Left) → HasRead front old events
+    → Hand anywhere (reverse old) events u (map (at d) rule ++ rest) now → first_takes rule u.1 ≡ true → first_in rule u.0 ≡ true → IsLive (front ++ u ∷ [])
+unfolding first_in
+live_by u old front events now d [] rest r hand first own = cc
+live_by u old front events now d (place.Part q ∷ rule) rest r hand first own = cc
+live_by u old front events now d (place.Inside q ∷ rule) rest r hand first own = cc
+live_by u old front events now d (place.Make a ∷ rule) rest r hand first own =
+    live_by u old front events (marked a now) d rule rest r
+    (acted (λ (u : Token). u) (with_mode takes_in takes) (IsRuleOf rules anywhere) took marked a (map (at d) rule ++ rest) now hand) first own
+live_by u old front events now d (place.Token c ∷ rule) rest r hand first own =
+    let after = taken (λ (u : Token). u) (with_mode takes_in takes) (IsRuleOf rules anywhere) took marked script front [] c (map (at d) rule ++ rest) now r.rest hand
+    (both (takes_in c u.0) (takes c u.1) own first) in
+    let more = completed (map (at d) rule ++ rest) (took u now) in
+    (more.0, more.1, after.goes_on more.0 more.1 more.2)
+
+-- a token of the kind, read in the mode of the rule's first token, is one with which a script goes on
 opening_live_by : (t : Token) (old : Left) (passed : List Mark) (p : declared.Part) (d : ℕ) (rest : Left) (rule : Rule)
     → Passing t (reverse old) (left.Part p d ∷ rest) passed → slice_get (rules p) (pick p t.1) ≡ Some rule → first_takes rule t.1 ≡ true
     → (front : List Token) (events : List Event) → HasRead front old events → (m : Mode) × IsLive (front ++ (m, t.1) ∷ [])
-opening_live_by t old passed p d rest [] h e first front events r = cc
-opening_live_by t old passed p d rest (place.Part q ∷ rule) h e first front events r = cc
-opening_live_by t old passed p d rest (place.Inside q ∷ rule) h e first front events r = cc
-opening_live_by t old passed p d rest (place.Make a ∷ rule) h e first front events r = cc
-opening_live_by t old passed p d rest (place.Token c ∷ rule) h e first front events r =
-    let u : Token = (own_mode c, t.1) in
+opening_live_by t old passed p d rest rule h e first front events r =
     let hand = opened (λ (u : Token). u) (with_mode takes_in takes) (IsRuleOf rules anywhere) took marked
     (with_mode (λ q m. same_mode (mode_of q) m) starts) (with_mode follows_in follows) empty (by_kind (chosen_by rules anywhere pick)) (one_token anywhere)
-    p d rest (map (at d) (place.Token c ∷ rule)) (events ++ map Marked passed) (h.hand anywhere allows_anywhere r.fits (own_mode c) events) (h.fits r.fits) (picked_rule anywhere p d t.1 (place.Token c ∷ rule) e (λ q. refl)) in
-    let after = taken (λ (u : Token). u) (with_mode takes_in takes) (IsRuleOf rules anywhere) took marked script front [] c (map (at d) rule ++ rest) (events ++ map Marked passed) r.rest hand
-    (both (takes_in c (own_mode c)) (takes c t.1) (in_own_mode c) first) in
-    let more = completed (map (at d) rule ++ rest) (took u (events ++ map Marked passed)) in
-    (own_mode c, (more.0, more.1, after.goes_on more.0 more.1 more.2))
+    p d rest (map (at d) rule) (events ++ map Marked passed) (h.hand anywhere allows_anywhere r.fits (first_mode rule) events) (h.fits r.fits) (picked_rule anywhere p d t.1 rule e (λ q. refl)) in
+    (first_mode rule, live_by (first_mode rule, t.1) old front events (events ++ map Marked passed) d rule rest r hand first (in_first_mode rule t.1 first))
 
 opening_live : (t : Token) (old : Left) (passed : List Mark) (p : declared.Part) (d : ℕ) (rest : Left) (rule : Rule)
     → Passing t (reverse old) (left.Part p d ∷ rest) passed → slice_get (rules p) (pick p t.1) ≡ Some rule → opens rule ≡ true

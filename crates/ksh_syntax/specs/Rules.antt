@@ -31,11 +31,11 @@ pieces m =
     ∷ (one m kind.Escaped ∷ Part (part.Text m) ∷ [])
     ∷ (one m kind.Expand ∷ Part (part.Text m) ∷ [])
     ∷ (one m kind.Dollar ∷ Part (part.Text m) ∷ [])
-    ∷ (one m kind.Backquote ∷ Inside (part.Lines ending.Operator) ∷ one mode.Command kind.Backquote ∷ Part (part.Text m) ∷ [])
-    ∷ (one m kind.OpenParameter ∷ Inside part.Parameter ∷ Part (part.Text m) ∷ [])
-    ∷ (one m kind.OpenCurrent ∷ Inside (part.Body ending.Word) ∷ one mode.Command kind.RightBrace ∷ Part (part.Text m) ∷ [])
-    ∷ (one m kind.OpenSubstitution ∷ Inside (part.Lines ending.Operator) ∷ one mode.Command kind.Close ∷ Part (part.Text m) ∷ [])
-    ∷ (one m kind.OpenArithmetic ∷ Inside (part.Text mode.Arithmetic) ∷ one mode.Arithmetic kind.Close ∷ Part (part.Text m) ∷ [])
+    ∷ (Make mark.Opens ∷ one m kind.Backquote ∷ Inside (part.Lines ending.Operator) ∷ Make mark.Closes ∷ one mode.Command kind.Backquote ∷ Part (part.Text m) ∷ [])
+    ∷ (Make mark.Opens ∷ one m kind.OpenParameter ∷ Inside part.Parameter ∷ Part (part.Text m) ∷ [])
+    ∷ (Make mark.Opens ∷ one m kind.OpenCurrent ∷ Inside (part.Body ending.Word) ∷ Make mark.Closes ∷ one mode.Command kind.RightBrace ∷ Part (part.Text m) ∷ [])
+    ∷ (Make mark.Opens ∷ one m kind.OpenSubstitution ∷ Inside (part.Lines ending.Operator) ∷ Make mark.Closes ∷ one mode.Command kind.Close ∷ Part (part.Text m) ∷ [])
+    ∷ (Make mark.Opens ∷ one m kind.OpenArithmetic ∷ Inside (part.Text mode.Arithmetic) ∷ Make mark.Closes ∷ one mode.Arithmetic kind.Close ∷ Part (part.Text m) ∷ [])
     ∷ []
 
 -- quotings
@@ -43,7 +43,7 @@ abbrev quotings : Mode → List Rule
 quotings m =
     (one m kind.Single ∷ Part (part.Text m) ∷ [])
     ∷ (one m kind.Ansi ∷ Part (part.Text m) ∷ [])
-    ∷ (one m kind.OpenQuote ∷ Part (part.Text mode.Quoted) ∷ one mode.Quoted kind.CloseQuote ∷ Part (part.Text m) ∷ [])
+    ∷ (Make mark.Opens ∷ one m kind.OpenQuote ∷ Part (part.Text mode.Quoted) ∷ Make mark.Closes ∷ one mode.Quoted kind.CloseQuote ∷ Part (part.Text m) ∷ [])
     ∷ []
 
 -- what opens and closes within a text: groups of a pattern, brackets of a subscript, parentheses of an arithmetic text
@@ -83,7 +83,7 @@ item_ends =
 
 -- the end of a list behind a separator or a compound command
 abbrev pub list_ends : Ending → List Rule
-list_ends ending.Case = item_ends ++ (Make mark.ListEnds ∷ one mode.Command kind.Esac ∷ []) ∷ []
+list_ends ending.Case = item_ends ++ (Make mark.ListEnds ∷ Make mark.Closes ∷ one mode.Command kind.Esac ∷ []) ∷ []
 list_ends _ = (Make mark.ListEnds ∷ []) ∷ []
 
 -- the end of a list directly behind a simple command, where a reserved word would be an argument
@@ -120,48 +120,48 @@ rules part.Parameter =
     ∷ []
 rules part.LengthOf =
     (one mode.Parameter kind.Name ∷ Part part.LengthPath ∷ [])
-    ∷ (one mode.Parameter kind.Digits ∷ one mode.Form kind.Close ∷ [])
-    ∷ (one mode.Parameter kind.Special ∷ one mode.Form kind.Close ∷ [])
+    ∷ (one mode.Parameter kind.Digits ∷ Make mark.Closes ∷ one mode.Form kind.Close ∷ [])
+    ∷ (one mode.Parameter kind.Special ∷ Make mark.Closes ∷ one mode.Form kind.Close ∷ [])
     ∷ []
 rules part.LengthPath =
     (one mode.Form kind.Open ∷ Part (part.Text mode.Subscript) ∷ one mode.Subscript kind.Close ∷ Part part.LengthPath ∷ [])
     ∷ (one mode.Form kind.Member ∷ Part part.LengthPath ∷ [])
-    ∷ (one mode.Form kind.Items ∷ one mode.Form kind.Close ∷ [])
-    ∷ (one mode.Form kind.Close ∷ [])
+    ∷ (one mode.Form kind.Items ∷ Make mark.Closes ∷ one mode.Form kind.Close ∷ [])
+    ∷ (Make mark.Closes ∷ one mode.Form kind.Close ∷ [])
     ∷ []
 rules part.TargetPath =
     (one mode.Form kind.Open ∷ Part (part.Text mode.Subscript) ∷ one mode.Subscript kind.Close ∷ Part part.TargetPath ∷ [])
     ∷ (one mode.Form kind.Member ∷ Part part.TargetPath ∷ [])
-    ∷ (one mode.Form kind.Items ∷ one mode.Form kind.Close ∷ [])
-    ∷ (one mode.Form kind.Prefix ∷ one mode.Form kind.Close ∷ [])
-    ∷ (one mode.Form kind.Close ∷ [])
+    ∷ (one mode.Form kind.Items ∷ Make mark.Closes ∷ one mode.Form kind.Close ∷ [])
+    ∷ (one mode.Form kind.Prefix ∷ Make mark.Closes ∷ one mode.Form kind.Close ∷ [])
+    ∷ (Make mark.Closes ∷ one mode.Form kind.Close ∷ [])
     ∷ []
 rules part.PathForm =
     (one mode.Form kind.Open ∷ Part (part.Text mode.Subscript) ∷ one mode.Subscript kind.Close ∷ Part part.PathForm ∷ [])
     ∷ (one mode.Form kind.Member ∷ Part part.PathForm ∷ [])
     ∷ (one mode.Form kind.Items ∷ Part part.SpecialForm ∷ [])
-    ∷ (one mode.Form kind.Close ∷ [])
-    ∷ (one mode.Form kind.Instead ∷ Part (part.Text mode.Brace) ∷ one mode.Brace kind.Close ∷ [])
-    ∷ (one mode.Form kind.Cut ∷ Part (part.Text mode.Brace) ∷ one mode.Brace kind.Close ∷ [])
+    ∷ (Make mark.Closes ∷ one mode.Form kind.Close ∷ [])
+    ∷ (one mode.Form kind.Instead ∷ Part (part.Text mode.Brace) ∷ Make mark.Closes ∷ one mode.Brace kind.Close ∷ [])
+    ∷ (one mode.Form kind.Cut ∷ Part (part.Text mode.Brace) ∷ Make mark.Closes ∷ one mode.Brace kind.Close ∷ [])
     ∷ (one mode.Form kind.Slice ∷ Part (part.Text mode.Colon) ∷ Part part.SliceEnd ∷ [])
     ∷ (one mode.Form kind.Replace ∷ Part (part.Text mode.Slash) ∷ Part part.ReplaceEnd ∷ [])
     ∷ []
 rules part.SpecialForm =
-    (one mode.Form kind.Close ∷ [])
-    ∷ (one mode.Form kind.Instead ∷ Part (part.Text mode.Brace) ∷ one mode.Brace kind.Close ∷ [])
-    ∷ (one mode.Form kind.Cut ∷ Part (part.Text mode.Brace) ∷ one mode.Brace kind.Close ∷ [])
+    (Make mark.Closes ∷ one mode.Form kind.Close ∷ [])
+    ∷ (one mode.Form kind.Instead ∷ Part (part.Text mode.Brace) ∷ Make mark.Closes ∷ one mode.Brace kind.Close ∷ [])
+    ∷ (one mode.Form kind.Cut ∷ Part (part.Text mode.Brace) ∷ Make mark.Closes ∷ one mode.Brace kind.Close ∷ [])
     ∷ (one mode.Form kind.Slice ∷ Part (part.Text mode.Colon) ∷ Part part.SliceEnd ∷ [])
     ∷ (one mode.Form kind.Replace ∷ Part (part.Text mode.Slash) ∷ Part part.ReplaceEnd ∷ [])
     ∷ []
-rules part.SliceEnd = (one mode.Colon kind.Close ∷ []) ∷ (one mode.Colon kind.Separator ∷ Part (part.Text mode.Brace) ∷ one mode.Brace kind.Close ∷ []) ∷ []
-rules part.ReplaceEnd = (one mode.Slash kind.Close ∷ []) ∷ (one mode.Slash kind.Separator ∷ Part (part.Text mode.Brace) ∷ one mode.Brace kind.Close ∷ []) ∷ []
+rules part.SliceEnd = (Make mark.Closes ∷ one mode.Colon kind.Close ∷ []) ∷ (one mode.Colon kind.Separator ∷ Part (part.Text mode.Brace) ∷ Make mark.Closes ∷ one mode.Brace kind.Close ∷ []) ∷ []
+rules part.ReplaceEnd = (Make mark.Closes ∷ one mode.Slash kind.Close ∷ []) ∷ (one mode.Slash kind.Separator ∷ Part (part.Text mode.Brace) ∷ Make mark.Closes ∷ one mode.Brace kind.Close ∷ []) ∷ []
 rules part.Script = (Part (part.Lines ending.Operator) ∷ one mode.Command kind.End ∷ []) ∷ []
 rules part.Line = (one mode.Command kind.Newline ∷ []) ∷ (one mode.Command kind.NewlineBodies ∷ Part part.BodyTexts ∷ []) ∷ []
 rules part.BodyTexts = (Part (part.Text mode.Body) ∷ Part part.BodyEnd ∷ []) ∷ []
 rules part.BodyEnd = (one mode.Body kind.BodyNext ∷ Part part.BodyTexts ∷ []) ∷ (one mode.Body kind.BodyLast ∷ []) ∷ []
 rules part.Newlines = [] ∷ (Part part.Line ∷ Part part.Newlines ∷ []) ∷ []
 rules part.Simple =
-    (Token (Any mode.Command words.CommandWord) ∷ Part part.Arguments ∷ [])
+    (Make mark.CommandWord ∷ Token (Any mode.Command words.CommandWord) ∷ Part part.Arguments ∷ [])
     ∷ (Token (Any mode.Command words.AnyStart) ∷ Part (part.Text mode.Word) ∷ one mode.Word kind.WordEnd ∷ Part part.Arguments ∷ [])
     ∷ (one mode.Command kind.Element ∷ Part part.ElementValue ∷ Part part.Arguments ∷ [])
     ∷ (one mode.Command kind.ValueOpen ∷ Part part.Value ∷ Part part.Arguments ∷ [])
@@ -169,7 +169,7 @@ rules part.Simple =
     ∷ []
 rules part.Compounded =
     (Part part.Compound ∷ Part part.Redirections ∷ [])
-    ∷ (one mode.Command kind.Function ∷ Token (Any mode.Command words.DottedName) ∷ Part part.Newlines ∷ one mode.Command kind.LeftBrace ∷ Inside (part.Body ending.Word) ∷ one mode.Command kind.RightBrace ∷ Part part.Redirections ∷ [])
+    ∷ (one mode.Command kind.Function ∷ Token (Any mode.Command words.DottedName) ∷ Part part.Newlines ∷ Make mark.Opens ∷ one mode.Command kind.LeftBrace ∷ Inside (part.Body ending.Word) ∷ Make mark.Closes ∷ one mode.Command kind.RightBrace ∷ Part part.Redirections ∷ [])
     ∷ []
 rules part.Arguments =
     (Make mark.SimpleEnds ∷ [])
@@ -183,7 +183,7 @@ rules part.Redirections = (Make mark.CompoundEnds ∷ []) ∷ (Part part.Redirec
 rules part.Redirection = (one mode.Command kind.Redirect ∷ Part part.RedirectWord ∷ []) ∷ (one mode.Command kind.HereRedirect ∷ Part part.RedirectWord ∷ []) ∷ []
 rules part.RedirectWord =
     (Token (Any mode.Condition words.AnyWord) ∷ [])
-    ∷ (Token (Any mode.Condition words.RedirectStart) ∷ Part (part.Text mode.Word) ∷ one mode.Word kind.WordEnd ∷ [])
+    ∷ (Make mark.Opens ∷ Token (Any mode.Condition words.RedirectStart) ∷ Part (part.Text mode.Word) ∷ Make mark.Closes ∷ one mode.Word kind.WordEnd ∷ [])
     ∷ []
 rules part.ElementValue =
     (one mode.Target kind.Open ∷ Part (part.Text mode.Subscript) ∷ one mode.Subscript kind.Close ∷ Part part.ElementValue ∷ [])
@@ -194,46 +194,46 @@ rules part.ElementValue =
     ∷ (one mode.Target kind.Otherwise ∷ Part (part.Text mode.Word) ∷ one mode.Word kind.WordEnd ∷ [])
     ∷ []
 rules part.Compound =
-    (one mode.Command kind.LeftBrace ∷ Inside (part.Body ending.Word) ∷ one mode.Command kind.RightBrace ∷ [])
-    ∷ (one mode.Command kind.Open ∷ Inside (part.Body ending.Operator) ∷ one mode.Command kind.Close ∷ [])
-    ∷ (one mode.Command kind.DoubleParenthesis ∷ Inside (part.Text mode.Arithmetic) ∷ one mode.Arithmetic kind.Close ∷ [])
-    ∷ (one mode.Command kind.LeftBrackets ∷ Inside part.Condition ∷ one mode.Condition kind.RightBrackets ∷ [])
-    ∷ (one mode.Command kind.If ∷ Inside part.IfBody ∷ [])
-    ∷ (one mode.Command kind.While ∷ Inside part.LoopBody ∷ [])
-    ∷ (one mode.Command kind.Until ∷ Inside part.LoopBody ∷ [])
-    ∷ (one mode.Command kind.For ∷ Inside part.ForBody ∷ [])
-    ∷ (one mode.Command kind.Select ∷ Inside part.SelectBody ∷ [])
-    ∷ (one mode.Command kind.Case ∷ Inside part.CaseBody ∷ [])
+    (Make mark.Opens ∷ one mode.Command kind.LeftBrace ∷ Inside (part.Body ending.Word) ∷ Make mark.Closes ∷ one mode.Command kind.RightBrace ∷ [])
+    ∷ (Make mark.Opens ∷ one mode.Command kind.Open ∷ Inside (part.Body ending.Operator) ∷ Make mark.Closes ∷ one mode.Command kind.Close ∷ [])
+    ∷ (Make mark.Opens ∷ one mode.Command kind.DoubleParenthesis ∷ Inside (part.Text mode.Arithmetic) ∷ Make mark.Closes ∷ one mode.Arithmetic kind.Close ∷ [])
+    ∷ (Make mark.Opens ∷ one mode.Command kind.LeftBrackets ∷ Inside part.Condition ∷ Make mark.Closes ∷ one mode.Condition kind.RightBrackets ∷ [])
+    ∷ (Make mark.Opens ∷ one mode.Command kind.If ∷ Inside part.IfBody ∷ [])
+    ∷ (Make mark.Opens ∷ one mode.Command kind.While ∷ Inside part.LoopBody ∷ [])
+    ∷ (Make mark.Opens ∷ one mode.Command kind.Until ∷ Inside part.LoopBody ∷ [])
+    ∷ (Make mark.Opens ∷ one mode.Command kind.For ∷ Inside part.ForBody ∷ [])
+    ∷ (Make mark.Opens ∷ one mode.Command kind.Select ∷ Inside part.SelectBody ∷ [])
+    ∷ (Make mark.Opens ∷ one mode.Command kind.Case ∷ Inside part.CaseBody ∷ [])
     ∷ []
 rules part.IfBody = (Part (part.Body ending.Word) ∷ one mode.Command kind.Then ∷ Part (part.Body ending.Word) ∷ Part part.IfRest ∷ []) ∷ []
 rules part.IfRest =
     (one mode.Command kind.Elif ∷ Part (part.Body ending.Word) ∷ one mode.Command kind.Then ∷ Part (part.Body ending.Word) ∷ Part part.IfRest ∷ [])
-    ∷ (one mode.Command kind.Else ∷ Part (part.Body ending.Word) ∷ one mode.Command kind.Fi ∷ [])
-    ∷ (one mode.Command kind.Fi ∷ [])
+    ∷ (one mode.Command kind.Else ∷ Part (part.Body ending.Word) ∷ Make mark.Closes ∷ one mode.Command kind.Fi ∷ [])
+    ∷ (Make mark.Closes ∷ one mode.Command kind.Fi ∷ [])
     ∷ []
-rules part.LoopBody = (Part (part.Body ending.Word) ∷ one mode.Command kind.Do ∷ Part (part.Body ending.Word) ∷ one mode.Command kind.Done ∷ []) ∷ []
+rules part.LoopBody = (Part (part.Body ending.Word) ∷ one mode.Command kind.Do ∷ Part (part.Body ending.Word) ∷ Make mark.Closes ∷ one mode.Command kind.Done ∷ []) ∷ []
 rules part.ForBody =
-    (one mode.Command kind.DoubleParenthesis ∷ Part (part.Text mode.LoopArithmetic) ∷ one mode.LoopArithmetic kind.Separator ∷ Part (part.Text mode.LoopArithmetic) ∷ one mode.LoopArithmetic kind.Separator ∷ Part (part.Text mode.Arithmetic) ∷ one mode.Arithmetic kind.Close ∷ Part part.ForSeparator ∷ one mode.Command kind.Do ∷ Part (part.Body ending.Word) ∷ one mode.Command kind.Done ∷ [])
+    (Make mark.Opens ∷ one mode.Command kind.DoubleParenthesis ∷ Part (part.Text mode.LoopArithmetic) ∷ one mode.LoopArithmetic kind.Separator ∷ Part (part.Text mode.LoopArithmetic) ∷ one mode.LoopArithmetic kind.Separator ∷ Part (part.Text mode.Arithmetic) ∷ Make mark.Closes ∷ one mode.Arithmetic kind.Close ∷ Part part.ForSeparator ∷ one mode.Command kind.Do ∷ Part (part.Body ending.Word) ∷ Make mark.Closes ∷ one mode.Command kind.Done ∷ [])
     ∷ (Token (Any mode.Command words.VariableName) ∷ Part part.ForWords ∷ [])
     ∷ []
 rules part.ForSeparator = (one mode.Command kind.Semicolon ∷ Part part.Newlines ∷ []) ∷ (Part part.Newlines ∷ []) ∷ []
 rules part.SelectBody = (Token (Any mode.Command words.VariableName) ∷ Part part.ForWords ∷ []) ∷ []
 rules part.ForWords =
     (one mode.Command kind.In ∷ Part part.WordList ∷ [])
-    ∷ (one mode.Command kind.Do ∷ Part (part.Body ending.Word) ∷ one mode.Command kind.Done ∷ [])
-    ∷ (one mode.Command kind.Semicolon ∷ Part part.Newlines ∷ one mode.Command kind.Do ∷ Part (part.Body ending.Word) ∷ one mode.Command kind.Done ∷ [])
+    ∷ (one mode.Command kind.Do ∷ Part (part.Body ending.Word) ∷ Make mark.Closes ∷ one mode.Command kind.Done ∷ [])
+    ∷ (one mode.Command kind.Semicolon ∷ Part part.Newlines ∷ one mode.Command kind.Do ∷ Part (part.Body ending.Word) ∷ Make mark.Closes ∷ one mode.Command kind.Done ∷ [])
     ∷ (Part part.Line ∷ Part part.ForLines ∷ [])
     ∷ []
 rules part.ForLines =
     (Part part.Line ∷ Part part.ForLines ∷ [])
     ∷ (one mode.Command kind.In ∷ Part part.WordList ∷ [])
-    ∷ (one mode.Command kind.Do ∷ Part (part.Body ending.Word) ∷ one mode.Command kind.Done ∷ [])
+    ∷ (one mode.Command kind.Do ∷ Part (part.Body ending.Word) ∷ Make mark.Closes ∷ one mode.Command kind.Done ∷ [])
     ∷ []
 rules part.WordList =
     (Token (Any mode.Command words.AnyWord) ∷ Part part.WordList ∷ [])
     ∷ (Token (Any mode.Command words.AnyStart) ∷ Part (part.Text mode.Word) ∷ one mode.Word kind.WordEnd ∷ Part part.WordList ∷ [])
-    ∷ (one mode.Command kind.Semicolon ∷ Part part.Newlines ∷ one mode.Command kind.Do ∷ Part (part.Body ending.Word) ∷ one mode.Command kind.Done ∷ [])
-    ∷ (Part part.Line ∷ Part part.Newlines ∷ one mode.Command kind.Do ∷ Part (part.Body ending.Word) ∷ one mode.Command kind.Done ∷ [])
+    ∷ (one mode.Command kind.Semicolon ∷ Part part.Newlines ∷ one mode.Command kind.Do ∷ Part (part.Body ending.Word) ∷ Make mark.Closes ∷ one mode.Command kind.Done ∷ [])
+    ∷ (Part part.Line ∷ Part part.Newlines ∷ one mode.Command kind.Do ∷ Part (part.Body ending.Word) ∷ Make mark.Closes ∷ one mode.Command kind.Done ∷ [])
     ∷ []
 rules part.CaseBody = (Part part.AnyWord ∷ Part part.Newlines ∷ one mode.Command kind.In ∷ Part part.CaseItems ∷ []) ∷ []
 rules part.AnyWord =
@@ -241,7 +241,7 @@ rules part.AnyWord =
     ∷ (Token (Any mode.Command words.AnyStart) ∷ Part (part.Text mode.Word) ∷ one mode.Word kind.WordEnd ∷ [])
     ∷ []
 rules part.CaseItems =
-    (one mode.Pattern kind.Esac ∷ [])
+    (Make mark.Closes ∷ one mode.Pattern kind.Esac ∷ [])
     ∷ (Part part.PatternLine ∷ Part part.CaseItems ∷ [])
     ∷ (one mode.Pattern kind.Open ∷ Part part.PatternWord ∷ Part part.PatternRest ∷ Part (part.Lines ending.Case) ∷ [])
     ∷ (Token (Any mode.Pattern words.NotEsac) ∷ Part part.PatternRest ∷ Part (part.Lines ending.Case) ∷ [])
@@ -283,7 +283,7 @@ rules part.AfterBinary =
     ∷ (Token (Any mode.Condition words.OperandWord) ∷ [])
     ∷ (Token (Any mode.Condition words.EveryStart) ∷ Part (part.Text mode.Word) ∷ one mode.Word kind.WordEnd ∷ [])
     ∷ []
-rules part.Value = (one mode.Value kind.Open ∷ Inside part.Items ∷ []) ∷ []
+rules part.Value = (Make mark.Opens ∷ one mode.Value kind.Open ∷ Inside part.Items ∷ []) ∷ []
 rules part.ValueLine = (one mode.Value kind.Newline ∷ []) ∷ (one mode.Value kind.NewlineBodies ∷ Part part.BodyTexts ∷ []) ∷ []
 rules part.ItemElement =
     (one mode.Target kind.Open ∷ Part (part.Text mode.Subscript) ∷ one mode.Subscript kind.Close ∷ Part part.ItemElement ∷ [])
@@ -301,7 +301,7 @@ rules part.MemberElement =
     ∷ (one mode.Target kind.ValueOpen ∷ Part part.Value ∷ [])
     ∷ []
 rules part.Items =
-    (one mode.Value kind.Close ∷ [])
+    (Make mark.Closes ∷ one mode.Value kind.Close ∷ [])
     ∷ (Part part.ValueLine ∷ Part part.Items ∷ [])
     ∷ (one mode.Value kind.Semicolon ∷ Part part.ItemsMembers ∷ [])
     ∷ (one mode.Value kind.Assignment ∷ Part part.ItemsMixed ∷ [])
@@ -317,7 +317,7 @@ rules part.Items =
     ∷ []
 rules part.KeyValue = (one mode.Target kind.Assign ∷ Part (part.Text mode.Word) ∷ one mode.Word kind.WordEnd ∷ []) ∷ []
 rules part.ItemsMixed =
-    (one mode.Value kind.Close ∷ [])
+    (Make mark.Closes ∷ one mode.Value kind.Close ∷ [])
     ∷ (Part part.ValueLine ∷ Part part.ItemsMixed ∷ [])
     ∷ (one mode.Value kind.Semicolon ∷ Part part.ItemsMembers ∷ [])
     ∷ (one mode.Value kind.Assignment ∷ Part part.ItemsMixed ∷ [])
@@ -332,7 +332,7 @@ rules part.ItemsMixed =
     ∷ (one mode.Value kind.Start ∷ Part (part.Text mode.Word) ∷ one mode.Word kind.WordEnd ∷ Part part.ItemsWords ∷ [])
     ∷ []
 rules part.ItemsMembers =
-    (one mode.Value kind.Close ∷ [])
+    (Make mark.Closes ∷ one mode.Value kind.Close ∷ [])
     ∷ (Part part.ValueLine ∷ Part part.ItemsMembers ∷ [])
     ∷ (one mode.Value kind.Semicolon ∷ Part part.ItemsMembers ∷ [])
     ∷ (one mode.Value kind.Assignment ∷ Part part.ItemsMembers ∷ [])
@@ -340,13 +340,13 @@ rules part.ItemsMembers =
     ∷ (one mode.Value kind.Element ∷ Part part.MemberElement ∷ Part part.ItemsMembers ∷ [])
     ∷ (one mode.Value kind.ValueOpen ∷ Part part.Value ∷ Part part.ItemsMembers ∷ [])
     ∷ (one mode.Value kind.Typeset ∷ Part part.TypesetMember ∷ [])
-    ∷ (one mode.Value kind.Function ∷ Token (Any mode.Value words.DottedName) ∷ Part part.ValueLines ∷ one mode.Value kind.LeftBrace ∷ Inside (part.Body ending.Word) ∷ one mode.Command kind.RightBrace ∷ Part part.MemberRedirections ∷ [])
+    ∷ (one mode.Value kind.Function ∷ Token (Any mode.Value words.DottedName) ∷ Part part.ValueLines ∷ Make mark.Opens ∷ one mode.Value kind.LeftBrace ∷ Inside (part.Body ending.Word) ∷ Make mark.Closes ∷ one mode.Command kind.RightBrace ∷ Part part.MemberRedirections ∷ [])
     ∷ (Token (Any mode.Value words.MemberName) ∷ Part part.MemberFunction ∷ [])
     ∷ []
 rules part.ValueLines = [] ∷ (Part part.ValueLine ∷ Part part.ValueLines ∷ []) ∷ []
 rules part.MemberFunction = (one mode.Value kind.Open ∷ one mode.Command kind.Close ∷ Part part.Newlines ∷ Part part.Compound ∷ Part part.MemberRedirections ∷ []) ∷ []
 rules part.TypesetMember =
-    (one mode.Value kind.Close ∷ [])
+    (Make mark.Closes ∷ one mode.Value kind.Close ∷ [])
     ∷ (Part part.ValueLine ∷ Part part.ItemsMembers ∷ [])
     ∷ (one mode.Value kind.Semicolon ∷ Part part.ItemsMembers ∷ [])
     ∷ (one mode.Value kind.Assignment ∷ Part part.TypesetMember ∷ [])
@@ -357,7 +357,7 @@ rules part.TypesetMember =
     ∷ (one mode.Value kind.Start ∷ Part (part.Text mode.Word) ∷ one mode.Word kind.WordEnd ∷ Part part.TypesetMember ∷ [])
     ∷ []
 rules part.ItemsTypeset =
-    (one mode.Value kind.Close ∷ [])
+    (Make mark.Closes ∷ one mode.Value kind.Close ∷ [])
     ∷ (Part part.ValueLine ∷ Part part.ItemsMixed ∷ [])
     ∷ (one mode.Value kind.Semicolon ∷ Part part.ItemsMembers ∷ [])
     ∷ (one mode.Value kind.Assignment ∷ Part part.ItemsTypeset ∷ [])
@@ -368,7 +368,7 @@ rules part.ItemsTypeset =
     ∷ (one mode.Value kind.Start ∷ Part (part.Text mode.Word) ∷ one mode.Word kind.WordEnd ∷ Part part.ItemsTypeset ∷ [])
     ∷ []
 rules part.ItemsFunction =
-    (one mode.Value kind.Close ∷ [])
+    (Make mark.Closes ∷ one mode.Value kind.Close ∷ [])
     ∷ (Part part.ValueLine ∷ Part part.ItemsWords ∷ [])
     ∷ (one mode.Value kind.Assignment ∷ Part part.ItemsWords ∷ [])
     ∷ (one mode.Value kind.StartAssignment ∷ Part (part.Text mode.Word) ∷ one mode.Word kind.WordEnd ∷ Part part.ItemsWords ∷ [])
@@ -377,9 +377,9 @@ rules part.ItemsFunction =
     ∷ (one mode.Value kind.Start ∷ Part (part.Text mode.Word) ∷ one mode.Word kind.WordEnd ∷ Part part.ItemsWords ∷ [])
     ∷ []
 rules part.ItemsBrace =
-    (one mode.Value kind.Close ∷ [])
+    (Make mark.Closes ∷ one mode.Value kind.Close ∷ [])
     ∷ (Part part.ValueLine ∷ Part part.ItemsBrace ∷ [])
-    ∷ (one mode.Value kind.LeftBrace ∷ Inside (part.Body ending.Word) ∷ one mode.Command kind.RightBrace ∷ Part part.MemberRedirections ∷ [])
+    ∷ (Make mark.Opens ∷ one mode.Value kind.LeftBrace ∷ Inside (part.Body ending.Word) ∷ Make mark.Closes ∷ one mode.Command kind.RightBrace ∷ Part part.MemberRedirections ∷ [])
     ∷ (one mode.Value kind.Assignment ∷ Part part.ItemsWords ∷ [])
     ∷ (one mode.Value kind.StartAssignment ∷ Part (part.Text mode.Word) ∷ one mode.Word kind.WordEnd ∷ Part part.ItemsWords ∷ [])
     ∷ (Token (Any mode.Value words.NotBrace) ∷ Part part.ItemsWords ∷ [])
@@ -387,7 +387,7 @@ rules part.ItemsBrace =
     ∷ []
 rules part.AfterItemName =
     (one mode.Value kind.Open ∷ one mode.Command kind.Close ∷ Part part.Newlines ∷ Part part.Compound ∷ Part part.MemberRedirections ∷ [])
-    ∷ (one mode.Value kind.Close ∷ [])
+    ∷ (Make mark.Closes ∷ one mode.Value kind.Close ∷ [])
     ∷ (Part part.ValueLine ∷ Part part.ItemsWords ∷ [])
     ∷ (one mode.Value kind.Assignment ∷ Part part.ItemsWords ∷ [])
     ∷ (one mode.Value kind.StartAssignment ∷ Part (part.Text mode.Word) ∷ one mode.Word kind.WordEnd ∷ Part part.ItemsWords ∷ [])
@@ -395,7 +395,7 @@ rules part.AfterItemName =
     ∷ (one mode.Value kind.Start ∷ Part (part.Text mode.Word) ∷ one mode.Word kind.WordEnd ∷ Part part.ItemsWords ∷ [])
     ∷ []
 rules part.ItemsWords =
-    (one mode.Value kind.Close ∷ [])
+    (Make mark.Closes ∷ one mode.Value kind.Close ∷ [])
     ∷ (Part part.ValueLine ∷ Part part.ItemsWords ∷ [])
     ∷ (one mode.Value kind.Assignment ∷ Part part.ItemsWords ∷ [])
     ∷ (one mode.Value kind.StartAssignment ∷ Part (part.Text mode.Word) ∷ one mode.Word kind.WordEnd ∷ Part part.ItemsWords ∷ [])
@@ -404,7 +404,7 @@ rules part.ItemsWords =
     ∷ (one mode.Value kind.Key ∷ Part (part.Text mode.Subscript) ∷ one mode.Subscript kind.Close ∷ Part part.KeyValue ∷ Part part.ItemsWords ∷ [])
     ∷ []
 rules part.ItemsPairs =
-    (one mode.Value kind.Close ∷ [])
+    (Make mark.Closes ∷ one mode.Value kind.Close ∷ [])
     ∷ (Part part.ValueLine ∷ Part part.ItemsPairs ∷ [])
     ∷ (one mode.Value kind.Key ∷ Part (part.Text mode.Subscript) ∷ one mode.Subscript kind.Close ∷ Part part.KeyValue ∷ Part part.ItemsPairs ∷ [])
     ∷ (one mode.Value kind.Assignment ∷ Part part.ItemsWords ∷ [])
@@ -413,7 +413,7 @@ rules part.ItemsPairs =
     ∷ (one mode.Value kind.Start ∷ Part (part.Text mode.Word) ∷ one mode.Word kind.WordEnd ∷ Part part.ItemsWords ∷ [])
     ∷ []
 rules part.MemberRedirections =
-    (one mode.Command kind.Close ∷ [])
+    (Make mark.Closes ∷ one mode.Command kind.Close ∷ [])
     ∷ (Part part.Line ∷ Part part.ItemsMembers ∷ [])
     ∷ (one mode.Command kind.Semicolon ∷ Part part.ItemsMembers ∷ [])
     ∷ (Part part.Redirection ∷ Part part.MemberRedirections ∷ [])

@@ -57,6 +57,15 @@ IsLive ts = (more : List Token) × (events : List Event) × Tells anywhere scrip
 abbrev pub IsLiveWithin : List Token → Type 0
 IsLiveWithin ts = (more : List Token) × (events : List Event) × Tells within_limit script (ts ++ more) [] events
 
+-- some script goes on with a token of that kind
+abbrev pub MayCome : List Token → Kind → Type 0
+MayCome front k = (m : Mode) × IsLive (front ++ (m, k) ∷ [])
+
+-- whether it is so
+abbrev pub Decides : Bool → Type 0 → Type 0
+Decides true A = A
+Decides false A = A → ⊥
+
 -- what comes after each part of what is left is known to come after it
 abbrev pub FitsAll : Left → Type 0
 FitsAll left = Fits (with_mode takes_in takes) (with_mode (λ p m. same_mode (mode_of p) m) starts) (with_mode follows_in follows) empty left (λ t. false)

@@ -4,11 +4,11 @@ ghost use Rattle.ksh_syntax.specs.declared.part.Part.TheVariants as part;
 
 use crate::kind::{Kind, Mode};
 use crate::part::Terminal::{Any, One};
-use crate::part::{Ending, Part, Words};
+use crate::part::{Ending, Mark, Part, Words};
 use crate::reading::{Reading, Step};
 use crate::words::is_in;
 use ksh_base::Memory;
-use ksh_grammar::Place::{Inside, Part as P, Token};
+use ksh_grammar::Place::{Inside, Make, Part as P, Token};
 
 impl Reading {
     pub(crate) fn script(&mut self, depth: u8, _kind: Kind) -> Result<Step, Memory>
@@ -34,8 +34,10 @@ impl Reading {
                         Token(One(Mode::Command, Kind::Function)),
                         Token(Any(Mode::Command, Words::DottedName)),
                         P(Part::Newlines),
+                        Make(Mark::Opens),
                         Token(One(Mode::Command, Kind::LeftBrace)),
                         Inside(Part::Body(Ending::Word)),
+                        Make(Mark::Closes),
                         Token(One(Mode::Command, Kind::RightBrace)),
                         P(Part::Redirections),
                     ],
@@ -53,8 +55,10 @@ impl Reading {
                 self.put(
                     depth,
                     &[
+                        Make(Mark::Opens),
                         Token(One(Mode::Command, Kind::LeftBrace)),
                         Inside(Part::Body(Ending::Word)),
+                        Make(Mark::Closes),
                         Token(One(Mode::Command, Kind::RightBrace)),
                     ],
                 )
@@ -63,8 +67,10 @@ impl Reading {
                 self.put(
                     depth,
                     &[
+                        Make(Mark::Opens),
                         Token(One(Mode::Command, Kind::Open)),
                         Inside(Part::Body(Ending::Operator)),
+                        Make(Mark::Closes),
                         Token(One(Mode::Command, Kind::Close)),
                     ],
                 )
@@ -73,8 +79,10 @@ impl Reading {
                 self.put(
                     depth,
                     &[
+                        Make(Mark::Opens),
                         Token(One(Mode::Command, Kind::DoubleParenthesis)),
                         Inside(Part::Text(Mode::Arithmetic)),
+                        Make(Mark::Closes),
                         Token(One(Mode::Arithmetic, Kind::Close)),
                     ],
                 )
@@ -83,8 +91,10 @@ impl Reading {
                 self.put(
                     depth,
                     &[
+                        Make(Mark::Opens),
                         Token(One(Mode::Command, Kind::LeftBrackets)),
                         Inside(Part::Condition),
+                        Make(Mark::Closes),
                         Token(One(Mode::Condition, Kind::RightBrackets)),
                     ],
                 )
@@ -92,13 +102,18 @@ impl Reading {
             Kind::If => {
                 self.put(
                     depth,
-                    &[Token(One(Mode::Command, Kind::If)), Inside(Part::IfBody)],
+                    &[
+                        Make(Mark::Opens),
+                        Token(One(Mode::Command, Kind::If)),
+                        Inside(Part::IfBody),
+                    ],
                 )
             }
             Kind::While => {
                 self.put(
                     depth,
                     &[
+                        Make(Mark::Opens),
                         Token(One(Mode::Command, Kind::While)),
                         Inside(Part::LoopBody),
                     ],
@@ -108,6 +123,7 @@ impl Reading {
                 self.put(
                     depth,
                     &[
+                        Make(Mark::Opens),
                         Token(One(Mode::Command, Kind::Until)),
                         Inside(Part::LoopBody),
                     ],
@@ -116,13 +132,18 @@ impl Reading {
             Kind::For => {
                 self.put(
                     depth,
-                    &[Token(One(Mode::Command, Kind::For)), Inside(Part::ForBody)],
+                    &[
+                        Make(Mark::Opens),
+                        Token(One(Mode::Command, Kind::For)),
+                        Inside(Part::ForBody),
+                    ],
                 )
             }
             Kind::Select => {
                 self.put(
                     depth,
                     &[
+                        Make(Mark::Opens),
                         Token(One(Mode::Command, Kind::Select)),
                         Inside(Part::SelectBody),
                     ],
@@ -132,6 +153,7 @@ impl Reading {
                 self.put(
                     depth,
                     &[
+                        Make(Mark::Opens),
                         Token(One(Mode::Command, Kind::Case)),
                         Inside(Part::CaseBody),
                     ],
@@ -177,11 +199,17 @@ impl Reading {
                     &[
                         Token(One(Mode::Command, Kind::Else)),
                         P(Part::Body(Ending::Word)),
+                        Make(Mark::Closes),
                         Token(One(Mode::Command, Kind::Fi)),
                     ],
                 )
             }
-            Kind::Fi => { self.put(depth, &[Token(One(Mode::Command, Kind::Fi))]) }
+            Kind::Fi => {
+                self.put(
+                    depth,
+                    &[Make(Mark::Closes), Token(One(Mode::Command, Kind::Fi))],
+                )
+            }
             _ => { Ok(Step::Refused) }
         }
     }
@@ -195,6 +223,7 @@ impl Reading {
                 P(Part::Body(Ending::Word)),
                 Token(One(Mode::Command, Kind::Do)),
                 P(Part::Body(Ending::Word)),
+                Make(Mark::Closes),
                 Token(One(Mode::Command, Kind::Done)),
             ],
         )
@@ -208,16 +237,19 @@ impl Reading {
                 self.put(
                     depth,
                     &[
+                        Make(Mark::Opens),
                         Token(One(Mode::Command, Kind::DoubleParenthesis)),
                         P(Part::Text(Mode::LoopArithmetic)),
                         Token(One(Mode::LoopArithmetic, Kind::Separator)),
                         P(Part::Text(Mode::LoopArithmetic)),
                         Token(One(Mode::LoopArithmetic, Kind::Separator)),
                         P(Part::Text(Mode::Arithmetic)),
+                        Make(Mark::Closes),
                         Token(One(Mode::Arithmetic, Kind::Close)),
                         P(Part::ForSeparator),
                         Token(One(Mode::Command, Kind::Do)),
                         P(Part::Body(Ending::Word)),
+                        Make(Mark::Closes),
                         Token(One(Mode::Command, Kind::Done)),
                     ],
                 )
@@ -291,6 +323,7 @@ impl Reading {
                     &[
                         Token(One(Mode::Command, Kind::Do)),
                         P(Part::Body(Ending::Word)),
+                        Make(Mark::Closes),
                         Token(One(Mode::Command, Kind::Done)),
                     ],
                 )
@@ -303,6 +336,7 @@ impl Reading {
                         P(Part::Newlines),
                         Token(One(Mode::Command, Kind::Do)),
                         P(Part::Body(Ending::Word)),
+                        Make(Mark::Closes),
                         Token(One(Mode::Command, Kind::Done)),
                     ],
                 )
@@ -327,6 +361,7 @@ impl Reading {
                     &[
                         Token(One(Mode::Command, Kind::Do)),
                         P(Part::Body(Ending::Word)),
+                        Make(Mark::Closes),
                         Token(One(Mode::Command, Kind::Done)),
                     ],
                 )
@@ -358,6 +393,7 @@ impl Reading {
                         P(Part::Newlines),
                         Token(One(Mode::Command, Kind::Do)),
                         P(Part::Body(Ending::Word)),
+                        Make(Mark::Closes),
                         Token(One(Mode::Command, Kind::Done)),
                     ],
                 )
@@ -376,6 +412,7 @@ impl Reading {
                             P(Part::Newlines),
                             Token(One(Mode::Command, Kind::Do)),
                             P(Part::Body(Ending::Word)),
+                            Make(Mark::Closes),
                             Token(One(Mode::Command, Kind::Done)),
                         ],
                     )
@@ -426,7 +463,12 @@ impl Reading {
         ensures { IsRead part.CaseItems depth kind result self.old.left.items self.new.left.items }
     {
         match kind {
-            Kind::Esac => { self.put(depth, &[Token(One(Mode::Pattern, Kind::Esac))]) }
+            Kind::Esac => {
+                self.put(
+                    depth,
+                    &[Make(Mark::Closes), Token(One(Mode::Pattern, Kind::Esac))],
+                )
+            }
             Kind::Open => {
                 self.put(
                     depth,

@@ -53,7 +53,11 @@ impl Reading {
             Kind::Esac => match ending {
                 Ending::Case => self.put(
                     depth,
-                    &[Make(Mark::ListEnds), Token(One(Mode::Command, Kind::Esac))],
+                    &[
+                        Make(Mark::ListEnds),
+                        Make(Mark::Closes),
+                        Token(One(Mode::Command, Kind::Esac)),
+                    ],
                 ),
                 _ => Ok(Step::Refused)
             },
@@ -298,7 +302,11 @@ impl Reading {
             Kind::Esac => match ending {
                 Ending::Case => self.put(
                     depth,
-                    &[Make(Mark::ListEnds), Token(One(Mode::Command, Kind::Esac))],
+                    &[
+                        Make(Mark::ListEnds),
+                        Make(Mark::Closes),
+                        Token(One(Mode::Command, Kind::Esac)),
+                    ],
                 ),
                 _ => Ok(Step::Refused)
             },

@@ -4,11 +4,11 @@ ghost use Rattle.ksh_syntax.specs.declared.part.Part.TheVariants as part;
 
 use crate::kind::{Kind, Mode};
 use crate::part::Terminal::{Any, One};
-use crate::part::{Ending, Part, Words};
+use crate::part::{Ending, Mark, Part, Words};
 use crate::reading::{Reading, Step};
 use crate::words::is_in;
 use ksh_base::Memory;
-use ksh_grammar::Place::{Inside, Part as P, Token};
+use ksh_grammar::Place::{Inside, Make, Part as P, Token};
 
 impl Reading {
     pub(crate) fn member_element(&mut self, depth: u8, kind: Kind) -> Result<Step, Memory>
@@ -69,7 +69,12 @@ impl Reading {
         ensures { IsRead part.ItemsMembers depth kind result self.old.left.items self.new.left.items }
     {
         match kind {
-            Kind::Close => { self.put(depth, &[Token(One(Mode::Value, Kind::Close))]) }
+            Kind::Close => {
+                self.put(
+                    depth,
+                    &[Make(Mark::Closes), Token(One(Mode::Value, Kind::Close))],
+                )
+            }
             Kind::Semicolon => {
                 self.put(
                     depth,
@@ -135,8 +140,10 @@ impl Reading {
                         Token(One(Mode::Value, Kind::Function)),
                         Token(Any(Mode::Value, Words::DottedName)),
                         P(Part::ValueLines),
+                        Make(Mark::Opens),
                         Token(One(Mode::Value, Kind::LeftBrace)),
                         Inside(Part::Body(Ending::Word)),
+                        Make(Mark::Closes),
                         Token(One(Mode::Command, Kind::RightBrace)),
                         P(Part::MemberRedirections),
                     ],
@@ -179,7 +186,12 @@ impl Reading {
         ensures { IsRead part.TypesetMember depth kind result self.old.left.items self.new.left.items }
     {
         match kind {
-            Kind::Close => { self.put(depth, &[Token(One(Mode::Value, Kind::Close))]) }
+            Kind::Close => {
+                self.put(
+                    depth,
+                    &[Make(Mark::Closes), Token(One(Mode::Value, Kind::Close))],
+                )
+            }
             Kind::Semicolon => {
                 self.put(
                     depth,
@@ -260,7 +272,12 @@ impl Reading {
         ensures { IsRead part.MemberRedirections depth kind result self.old.left.items self.new.left.items }
     {
         match kind {
-            Kind::Close => { self.put(depth, &[Token(One(Mode::Command, Kind::Close))]) }
+            Kind::Close => {
+                self.put(
+                    depth,
+                    &[Make(Mark::Closes), Token(One(Mode::Command, Kind::Close))],
+                )
+            }
             Kind::Semicolon => {
                 self.put(
                     depth,

@@ -3,11 +3,11 @@ ghost use Rattle.ksh_syntax.specs.Steps.{IsRead};
 ghost use Rattle.ksh_syntax.specs.declared.part.Part.TheVariants as part;
 
 use crate::kind::{Kind, Mode};
-use crate::part::Part;
 use crate::part::Terminal::One;
+use crate::part::{Mark, Part};
 use crate::reading::{Reading, Step};
 use ksh_base::Memory;
-use ksh_grammar::Place::{Part as P, Token};
+use ksh_grammar::Place::{Make, Part as P, Token};
 
 impl Reading {
     pub(crate) fn parameter(&mut self, depth: u8, kind: Kind) -> Result<Step, Memory>
@@ -73,6 +73,7 @@ impl Reading {
                     depth,
                     &[
                         Token(One(Mode::Parameter, Kind::Digits)),
+                        Make(Mark::Closes),
                         Token(One(Mode::Form, Kind::Close)),
                     ],
                 )
@@ -82,6 +83,7 @@ impl Reading {
                     depth,
                     &[
                         Token(One(Mode::Parameter, Kind::Special)),
+                        Make(Mark::Closes),
                         Token(One(Mode::Form, Kind::Close)),
                     ],
                 )
@@ -116,11 +118,17 @@ impl Reading {
                     depth,
                     &[
                         Token(One(Mode::Form, Kind::Items)),
+                        Make(Mark::Closes),
                         Token(One(Mode::Form, Kind::Close)),
                     ],
                 )
             }
-            Kind::Close => { self.put(depth, &[Token(One(Mode::Form, Kind::Close))]) }
+            Kind::Close => {
+                self.put(
+                    depth,
+                    &[Make(Mark::Closes), Token(One(Mode::Form, Kind::Close))],
+                )
+            }
             _ => { Ok(Step::Refused) }
         }
     }
@@ -151,6 +159,7 @@ impl Reading {
                     depth,
                     &[
                         Token(One(Mode::Form, Kind::Items)),
+                        Make(Mark::Closes),
                         Token(One(Mode::Form, Kind::Close)),
                     ],
                 )
@@ -160,11 +169,17 @@ impl Reading {
                     depth,
                     &[
                         Token(One(Mode::Form, Kind::Prefix)),
+                        Make(Mark::Closes),
                         Token(One(Mode::Form, Kind::Close)),
                     ],
                 )
             }
-            Kind::Close => { self.put(depth, &[Token(One(Mode::Form, Kind::Close))]) }
+            Kind::Close => {
+                self.put(
+                    depth,
+                    &[Make(Mark::Closes), Token(One(Mode::Form, Kind::Close))],
+                )
+            }
             _ => { Ok(Step::Refused) }
         }
     }
@@ -196,13 +211,19 @@ impl Reading {
                     &[Token(One(Mode::Form, Kind::Items)), P(Part::SpecialForm)],
                 )
             }
-            Kind::Close => { self.put(depth, &[Token(One(Mode::Form, Kind::Close))]) }
+            Kind::Close => {
+                self.put(
+                    depth,
+                    &[Make(Mark::Closes), Token(One(Mode::Form, Kind::Close))],
+                )
+            }
             Kind::Instead => {
                 self.put(
                     depth,
                     &[
                         Token(One(Mode::Form, Kind::Instead)),
                         P(Part::Text(Mode::Brace)),
+                        Make(Mark::Closes),
                         Token(One(Mode::Brace, Kind::Close)),
                     ],
                 )
@@ -213,6 +234,7 @@ impl Reading {
                     &[
                         Token(One(Mode::Form, Kind::Cut)),
                         P(Part::Text(Mode::Brace)),
+                        Make(Mark::Closes),
                         Token(One(Mode::Brace, Kind::Close)),
                     ],
                 )
@@ -245,13 +267,19 @@ impl Reading {
         ensures { IsRead part.SpecialForm depth kind result self.old.left.items self.new.left.items }
     {
         match kind {
-            Kind::Close => { self.put(depth, &[Token(One(Mode::Form, Kind::Close))]) }
+            Kind::Close => {
+                self.put(
+                    depth,
+                    &[Make(Mark::Closes), Token(One(Mode::Form, Kind::Close))],
+                )
+            }
             Kind::Instead => {
                 self.put(
                     depth,
                     &[
                         Token(One(Mode::Form, Kind::Instead)),
                         P(Part::Text(Mode::Brace)),
+                        Make(Mark::Closes),
                         Token(One(Mode::Brace, Kind::Close)),
                     ],
                 )
@@ -262,6 +290,7 @@ impl Reading {
                     &[
                         Token(One(Mode::Form, Kind::Cut)),
                         P(Part::Text(Mode::Brace)),
+                        Make(Mark::Closes),
                         Token(One(Mode::Brace, Kind::Close)),
                     ],
                 )
@@ -294,13 +323,19 @@ impl Reading {
         ensures { IsRead part.SliceEnd depth kind result self.old.left.items self.new.left.items }
     {
         match kind {
-            Kind::Close => { self.put(depth, &[Token(One(Mode::Colon, Kind::Close))]) }
+            Kind::Close => {
+                self.put(
+                    depth,
+                    &[Make(Mark::Closes), Token(One(Mode::Colon, Kind::Close))],
+                )
+            }
             Kind::Separator => {
                 self.put(
                     depth,
                     &[
                         Token(One(Mode::Colon, Kind::Separator)),
                         P(Part::Text(Mode::Brace)),
+                        Make(Mark::Closes),
                         Token(One(Mode::Brace, Kind::Close)),
                     ],
                 )
@@ -313,13 +348,19 @@ impl Reading {
         ensures { IsRead part.ReplaceEnd depth kind result self.old.left.items self.new.left.items }
     {
         match kind {
-            Kind::Close => { self.put(depth, &[Token(One(Mode::Slash, Kind::Close))]) }
+            Kind::Close => {
+                self.put(
+                    depth,
+                    &[Make(Mark::Closes), Token(One(Mode::Slash, Kind::Close))],
+                )
+            }
             Kind::Separator => {
                 self.put(
                     depth,
                     &[
                         Token(One(Mode::Slash, Kind::Separator)),
                         P(Part::Text(Mode::Brace)),
+                        Make(Mark::Closes),
                         Token(One(Mode::Brace, Kind::Close)),
                     ],
                 )

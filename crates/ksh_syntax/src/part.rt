@@ -219,4 +219,11 @@ pub enum Mark {
     CompoundEnds,
     /// A list of commands ends.
     ListEnds,
+    /// What the next token opens is closed by another: a compound command, an expansion in braces or parentheses, a
+    /// substitution, a value, double quotes, or the word of a redirection.
+    Opens,
+    /// The next token closes what was opened last.
+    Closes,
+    /// The next token is a whole word that begins a simple command and can't name a function.
+    CommandWord,
 }

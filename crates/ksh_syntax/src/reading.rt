@@ -1,8 +1,8 @@
-ghost use Rattle.std.specs.Prelude.{◌≡◌, Some, List, [], ◌∷◌, ◌++◌, IfOk};
+ghost use Rattle.std.specs.Prelude.{◌≡◌, ◌↔◌, true, Some, List, [], ◌∷◌, ◌++◌, IfOk, OnOk};
 ghost use Rattle.ksh_grammar.specs.Rules.{opens};
 ghost use Rattle.ksh_syntax.specs.declared.kind.Mode.{Mode};
 ghost use Rattle.ksh_syntax.specs.declared.kind.Kind.{Kind};
-ghost use Rattle.ksh_syntax.specs.Sentences.{Event, GoesOn, HasRead, IsLive, Token};
+ghost use Rattle.ksh_syntax.specs.Sentences.{Decides, Event, GoesOn, HasRead, IsLive, IsScript, MayCome, Token};
 ghost use Rattle.ksh_syntax.specs.Steps.{placed, Left, IsPut, IsRead};
 
 use crate::kind::{Kind, Mode};
@@ -96,6 +96,49 @@ impl Reading {
             }
         }
         Mode::Command
+    }
+
+    /// Another reading that has read the same.
+    pub fn copy(&self, alloc: Global) -> Result<Reading, Memory>
+        ensures { IfOk result (λ r. r.left.items ≡ self.now.left.items) }
+    {
+        let mut left = Vec::new(alloc);
+        for symbol in self.left.iter() {
+            left.push(*symbol)?;
+        }
+        Ok(Reading { left })
+    }
+
+    /// Goes to where another reading is.
+    pub fn go_to(&mut self, reading: &Reading) -> Result<(), Memory>
+        ensures { OnOk result (self.new.left.items ≡ reading.now.left.items) }
+    {
+        self.left.clear();
+        for symbol in reading.left.iter() {
+            self.left.push(*symbol)?;
+        }
+        Ok(())
+    }
+
+    /// Whether some script goes on with a token of that kind.
+    pub fn may_come(&self, alloc: Global, kind: Kind) -> Result<bool, Memory>
+        ensures { IfOk result (λ b. (front : List Token) (events : List Event) → HasRead front self.now.left.items events → Decides b (MayCome front kind)) }
+    {
+        let mut marks = Vec::new(alloc);
+        let mut trial = self.copy(alloc)?;
+        match trial.take(self.mode(), kind, &mut marks)? {
+            Next::Taken => Ok(true),
+            Next::TooDeep => Ok(true),
+            Next::Refused => Ok(false),
+        }
+    }
+
+    /// Whether nothing is left to read: then what was read is a script.
+    pub fn is_finished(&self) -> bool
+        ensures empty { result ≡ true ↔ (self.now.left.items ≡ []) }
+        ensures script { (front : List Token) (events : List Event) → HasRead front self.now.left.items events → result ≡ true → IsScript front events }
+    {
+        self.left.is_empty()
     }
 
     /// Puts a rule in front of what is left, unless it opens something that would be too deep.

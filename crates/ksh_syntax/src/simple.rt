@@ -101,6 +101,7 @@ impl Reading {
                     self.put(
                         depth,
                         &[
+                            Make(Mark::CommandWord),
                             Token(Any(Mode::Command, Words::CommandWord)),
                             P(Part::Arguments),
                         ],
@@ -211,8 +212,10 @@ impl Reading {
                 self.put(
                     depth,
                     &[
+                        Make(Mark::Opens),
                         Token(Any(Mode::Condition, Words::RedirectStart)),
                         P(Part::Text(Mode::Word)),
+                        Make(Mark::Closes),
                         Token(One(Mode::Word, Kind::WordEnd)),
                     ],
                 )

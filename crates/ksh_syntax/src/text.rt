@@ -5,10 +5,10 @@ ghost use Rattle.ksh_syntax.specs.declared.kind.Kind.TheVariants as kind;
 
 use crate::kind::{Kind, Mode};
 use crate::part::Terminal::One;
-use crate::part::{Ending, Part};
+use crate::part::{Ending, Mark, Part};
 use crate::reading::{Reading, Step};
 use ksh_base::Memory;
-use ksh_grammar::Place::{Inside, Part as P, Token};
+use ksh_grammar::Place::{Inside, Make, Part as P, Token};
 
 impl Reading {
     pub(crate) fn text(&mut self, mode: Mode, depth: u8, kind: Kind) -> Result<Step, Memory>
@@ -35,8 +35,10 @@ impl Reading {
             Kind::Backquote => self.put(
                 depth,
                 &[
+                    Make(Mark::Opens),
                     Token(One(mode, Kind::Backquote)),
                     Inside(Part::Lines(Ending::Operator)),
+                    Make(Mark::Closes),
                     Token(One(Mode::Command, Kind::Backquote)),
                     P(Part::Text(mode)),
                 ],
@@ -44,6 +46,7 @@ impl Reading {
             Kind::OpenParameter => self.put(
                 depth,
                 &[
+                    Make(Mark::Opens),
                     Token(One(mode, Kind::OpenParameter)),
                     Inside(Part::Parameter),
                     P(Part::Text(mode)),
@@ -52,8 +55,10 @@ impl Reading {
             Kind::OpenCurrent => self.put(
                 depth,
                 &[
+                    Make(Mark::Opens),
                     Token(One(mode, Kind::OpenCurrent)),
                     Inside(Part::Body(Ending::Word)),
+                    Make(Mark::Closes),
                     Token(One(Mode::Command, Kind::RightBrace)),
                     P(Part::Text(mode)),
                 ],
@@ -61,8 +66,10 @@ impl Reading {
             Kind::OpenSubstitution => self.put(
                 depth,
                 &[
+                    Make(Mark::Opens),
                     Token(One(mode, Kind::OpenSubstitution)),
                     Inside(Part::Lines(Ending::Operator)),
+                    Make(Mark::Closes),
                     Token(One(Mode::Command, Kind::Close)),
                     P(Part::Text(mode)),
                 ],
@@ -70,8 +77,10 @@ impl Reading {
             Kind::OpenArithmetic => self.put(
                 depth,
                 &[
+                    Make(Mark::Opens),
                     Token(One(mode, Kind::OpenArithmetic)),
                     Inside(Part::Text(Mode::Arithmetic)),
+                    Make(Mark::Closes),
                     Token(One(Mode::Arithmetic, Kind::Close)),
                     P(Part::Text(mode)),
                 ],
@@ -100,8 +109,10 @@ impl Reading {
             _ => self.put(
                 depth,
                 &[
+                    Make(Mark::Opens),
                     Token(One(mode, Kind::OpenQuote)),
                     P(Part::Text(Mode::Quoted)),
+                    Make(Mark::Closes),
                     Token(One(Mode::Quoted, Kind::CloseQuote)),
                     P(Part::Text(mode)),
                 ],

@@ -4,11 +4,11 @@ ghost use Rattle.ksh_syntax.specs.declared.part.Part.TheVariants as part;
 
 use crate::kind::{Kind, Mode};
 use crate::part::Terminal::{Any, One};
-use crate::part::{Ending, Part, Words};
+use crate::part::{Ending, Mark, Part, Words};
 use crate::reading::{Reading, Step};
 use crate::words::is_in;
 use ksh_base::Memory;
-use ksh_grammar::Place::{Inside, Part as P, Token};
+use ksh_grammar::Place::{Inside, Make, Part as P, Token};
 
 impl Reading {
     pub(crate) fn value(&mut self, depth: u8, kind: Kind) -> Result<Step, Memory>
@@ -18,7 +18,11 @@ impl Reading {
             Kind::Open => {
                 self.put(
                     depth,
-                    &[Token(One(Mode::Value, Kind::Open)), Inside(Part::Items)],
+                    &[
+                        Make(Mark::Opens),
+                        Token(One(Mode::Value, Kind::Open)),
+                        Inside(Part::Items),
+                    ],
                 )
             }
             _ => { Ok(Step::Refused) }
@@ -58,7 +62,12 @@ impl Reading {
         ensures { IsRead part.Items depth kind result self.old.left.items self.new.left.items }
     {
         match kind {
-            Kind::Close => { self.put(depth, &[Token(One(Mode::Value, Kind::Close))]) }
+            Kind::Close => {
+                self.put(
+                    depth,
+                    &[Make(Mark::Closes), Token(One(Mode::Value, Kind::Close))],
+                )
+            }
             Kind::Semicolon => {
                 self.put(
                     depth,
@@ -192,7 +201,12 @@ impl Reading {
         ensures { IsRead part.ItemsMixed depth kind result self.old.left.items self.new.left.items }
     {
         match kind {
-            Kind::Close => { self.put(depth, &[Token(One(Mode::Value, Kind::Close))]) }
+            Kind::Close => {
+                self.put(
+                    depth,
+                    &[Make(Mark::Closes), Token(One(Mode::Value, Kind::Close))],
+                )
+            }
             Kind::Semicolon => {
                 self.put(
                     depth,
@@ -376,7 +390,12 @@ impl Reading {
         ensures { IsRead part.ItemsTypeset depth kind result self.old.left.items self.new.left.items }
     {
         match kind {
-            Kind::Close => { self.put(depth, &[Token(One(Mode::Value, Kind::Close))]) }
+            Kind::Close => {
+                self.put(
+                    depth,
+                    &[Make(Mark::Closes), Token(One(Mode::Value, Kind::Close))],
+                )
+            }
             Kind::Semicolon => {
                 self.put(
                     depth,
@@ -457,7 +476,12 @@ impl Reading {
         ensures { IsRead part.ItemsFunction depth kind result self.old.left.items self.new.left.items }
     {
         match kind {
-            Kind::Close => { self.put(depth, &[Token(One(Mode::Value, Kind::Close))]) }
+            Kind::Close => {
+                self.put(
+                    depth,
+                    &[Make(Mark::Closes), Token(One(Mode::Value, Kind::Close))],
+                )
+            }
             Kind::Assignment => {
                 self.put(
                     depth,
@@ -516,13 +540,20 @@ impl Reading {
         ensures { IsRead part.ItemsBrace depth kind result self.old.left.items self.new.left.items }
     {
         match kind {
-            Kind::Close => { self.put(depth, &[Token(One(Mode::Value, Kind::Close))]) }
+            Kind::Close => {
+                self.put(
+                    depth,
+                    &[Make(Mark::Closes), Token(One(Mode::Value, Kind::Close))],
+                )
+            }
             Kind::LeftBrace => {
                 self.put(
                     depth,
                     &[
+                        Make(Mark::Opens),
                         Token(One(Mode::Value, Kind::LeftBrace)),
                         Inside(Part::Body(Ending::Word)),
+                        Make(Mark::Closes),
                         Token(One(Mode::Command, Kind::RightBrace)),
                         P(Part::MemberRedirections),
                     ],
@@ -591,7 +622,12 @@ impl Reading {
                     ],
                 )
             }
-            Kind::Close => { self.put(depth, &[Token(One(Mode::Value, Kind::Close))]) }
+            Kind::Close => {
+                self.put(
+                    depth,
+                    &[Make(Mark::Closes), Token(One(Mode::Value, Kind::Close))],
+                )
+            }
             Kind::Assignment => {
                 self.put(
                     depth,
@@ -643,7 +679,12 @@ impl Reading {
         ensures { IsRead part.ItemsWords depth kind result self.old.left.items self.new.left.items }
     {
         match kind {
-            Kind::Close => { self.put(depth, &[Token(One(Mode::Value, Kind::Close))]) }
+            Kind::Close => {
+                self.put(
+                    depth,
+                    &[Make(Mark::Closes), Token(One(Mode::Value, Kind::Close))],
+                )
+            }
             Kind::Assignment => {
                 self.put(
                     depth,
@@ -707,7 +748,12 @@ impl Reading {
         ensures { IsRead part.ItemsPairs depth kind result self.old.left.items self.new.left.items }
     {
         match kind {
-            Kind::Close => { self.put(depth, &[Token(One(Mode::Value, Kind::Close))]) }
+            Kind::Close => {
+                self.put(
+                    depth,
+                    &[Make(Mark::Closes), Token(One(Mode::Value, Kind::Close))],
+                )
+            }
             Kind::Key => {
                 self.put(
                     depth,

@@ -1,0 +1,4 @@
+mod Openings
+mod Ends
+mod Sees
+mod Scans

@@ -1,0 +1,107 @@
+-- What a scanner's steps show.
+use Rattle.std.specs.Prelude.{◌≡◌, ◌<◌, ◌≤◌, ℕ, Bool, List, [], ◌∷◌, ◌++◌, map, length, Result, Ok, Err}
+use Rattle.std.proofs.Common.{refl, sym, subst, arith}
+use Rattle.std.proofs.Math.Nat.{lt_of_not-le}
+use Rattle.ksh_lexer.specs.declared.fault.SyntaxFault.{SyntaxFault}
+use Rattle.ksh_lexer.specs.declared.fault.SyntaxKind.{SyntaxKind}
+use Rattle.ksh_lexer.specs.declared.fault.SyntaxKind.TheVariants as fault
+use Rattle.ksh_lexer.specs.Place.{fault_at, longest_text, too_long}
+use Rattle.ksh_syntax.specs.declared.kind.Kind.{Kind}
+use Rattle.ksh_syntax.specs.declared.kind.Kind.TheVariants as kind
+use Rattle.ksh_syntax.specs.declared.kind.Mode.{Mode}
+use Rattle.ksh_syntax.specs.declared.part.Mark.{Mark}
+use Rattle.ksh_syntax.specs.declared.reading.Next.TheVariants.{Taken, Refused, TooDeep}
+use Rattle.ksh_syntax.specs.Sentences.{Decides, Event, Goes, HasRead, IsLive, IsScript, Marked, MayCome, Token, Took}
+use Rattle.ksh_syntax.proofs.Laws.{live}
+use Rattle.ksh_syntax.specs.Steps.{Left}
+use Rattle.ksh_scan.specs.declared.refusal.SyntaxRefused.{SyntaxRefused}
+use Rattle.ksh_scan.specs.declared.refusal.SyntaxRefused.TheVariants.{Fault, Memory}
+use Rattle.ksh_scan.specs.declared.refusal.Unread.{Unread}
+use Rattle.ksh_scan.specs.declared.refusal.Unread.TheVariants.{Word}
+use Rattle.ksh_scan.specs.declared.see.Seen.{Seen}
+use Rattle.ksh_scan.specs.declared.state.State.{State}
+use Rattle.ksh_scan.specs.After.{after}
+use Rattle.ksh_scan.specs.Scan.{first, long, of_text, of_token, no_script, nothing_read, too_deep, one_more, start, HasFault, IsFaultBehind, IsRefused, IsText, IsOnly, IsTold, IsToldBy, IsUnread, Told, Spelled, unread_by, word_fault}
+use Rattle.ksh_scan.specs.Seeing.{text_of, Sees}
+use Rattle.ksh_scan.specs.Steps.{IsAt, StepsOn, TakesOn}
+
+pub told_word : (u : Unread) (front : List Token) (s : State) (n : Seen) (names others assignments : Bool) (told : Told) → u ≡ Word
+    → Decides names (MayCome front kind.Name) → Decides others (MayCome front kind.Other) → Decides assignments (MayCome front kind.Assignment)
+    → told ≡ word_fault names others assignments n.kind n.token.from → IsToldBy u front s n told
+told_word u front s n names others assignments told e a b c f = subst (λ v. IsToldBy v front s n told) (sym e) (names, others, assignments, a, b, c, f)
+
+-- the token was read with some marks, and none stood before it
+pub takes_taken : (front : List Token) (events : List Event) (m : Mode) (n : Seen) (s s' : State) (old left : Left) (before marks : List Mark) → before ≡ []
+    → HasRead front old events → Goes (m, n.kind) old left before marks Taken → s' ≡ after s n marks → TakesOn front events m n s left s' marks (Ok n)
+takes_taken front events m n s s' old left before marks none h g e =
+    let same : g.0 ≡ marks = passed_all before g.0 marks none g.1 in
+    (refl, e, subst (λ ms. HasRead (front ++ (m, n.kind) ∷ []) left ((events ++ map Marked ms) ++ Took (m, n.kind) ∷ [])) same (g.2 front events h))
+  where
+    passed_all : (before passed all : List Mark) → before ≡ [] → all ≡ before ++ passed → passed ≡ all
+    passed_all before passed all e f = sym (subst (λ xs. all ≡ xs ++ passed) e f)
+
+pub takes_deep : (front : List Token) (events : List Event) (m : Mode) (n : Seen) (s s' : State) (old left : Left) (before marks marks' : List Mark) (r : SyntaxRefused)
+    → HasRead front old events → Goes (m, n.kind) old left before marks TooDeep → r ≡ Fault (fault_at (text_of s) fault.TooDeep n.token.from)
+    → TakesOn front events m n s left s' marks' (Err r)
+takes_deep front events m n s s' old left before marks marks' r h g e =
+    subst (λ q. TakesOn front events m n s left s' marks' (Err q)) (sym e) (too_deep (g front events h).0 (g front events h).1 refl)
+
+pub takes_refused : (front : List Token) (events : List Event) (m : Mode) (n : Seen) (s kept s' : State) (old seen_by left : Left) (before marks marks' : List Mark) (u : Unread) (told : Told) (r : SyntaxRefused)
+    → HasRead front old events → Goes (m, n.kind) old left before marks Refused → u ≡ unread_by n → kept ≡ s → (u ≡ Word → seen_by ≡ old)
+    → ((front : List Token) (events : List Event) → (u ≡ Word → HasRead front seen_by events) → IsToldBy u front kept n told)
+    → r ≡ Fault (fault_at (text_of kept) told.0 told.1) → TakesOn front events m n s left s' marks' (Err r)
+takes_refused front events m n s kept s' old seen_by left before marks marks' u told r h g is same remembered t e =
+    let by : IsToldBy u front kept n told = t front events (λ w. subst (λ l. HasRead front l events) (sym (remembered w)) h) in
+    let by_seen : IsTold front kept n told = subst (λ v. IsToldBy v front kept n told) is by in
+    let at_s : IsTold front s n told = subst (λ z. IsTold front z n told) same by_seen in
+    let fault : r ≡ Fault (fault_at (text_of s) told.0 told.1) = subst (λ z. r ≡ Fault (fault_at (text_of z) told.0 told.1)) same e in
+    subst (λ q. TakesOn front events m n s left s' marks' (Err q)) (sym fault) (no_script told (g front events h) at_s refl)
+
+-- a token that is seen and taken is a step
+pub steps : (text : List ℕ) (front : List Token) (events : List Event) (m : Mode) (n : Seen) (s s' s'' : State) (old left : Left) (marks : List Mark) (r : Result Seen SyntaxRefused)
+    → IsAt text front events old s → IsOnly front m → Sees s m (Ok n) s' → TakesOn front events m n s' left s'' marks r → StepsOn text front events s left s'' marks r
+steps text front events m n s s' s'' old left marks (Ok read) at only sees takes =
+    let same : read ≡ n = takes.0 in
+    subst (λ k. StepsOn text front events s left s'' marks (Ok k)) (sym same) (
+      m,
+      record {
+        read = takes.2;
+        spelled = subst (λ z. Spelled text z (front ++ (m, n.kind) ∷ []) ((events ++ map Marked marks) ++ Took (m, n.kind) ∷ [])) (sym takes.1)
+            (one_more m n marks s s' front events at.spelled sees);
+      },
+    )
+steps text front events m n s s' s'' old left marks (Err (Fault f)) at only sees takes = of_token m n s' only sees takes
+steps text front events m n s s' s'' old left marks (Err Memory) at only sees takes = tt
+
+pub is_long : {A : Type 0} (text : List ℕ) (f : SyntaxFault) → (length text ≤ longest_text → A) → (A → ⊥) → f ≡ too_long text → HasFault text f
+is_long text f short refuted e = long (lt_of_not-le (λ h. refuted (short h))) e
+
+-- the tokens so far, what they tell, and where the scanner stands
+pub record Scanned (text : List ℕ) (left : Left) (s : State) : Type 0 where
+  pub front : List Token
+  pub events : List Event
+  pub at : IsAt text front events left s
+
+pub finished : (text : List ℕ) (left : Left) (s : State) → Scanned text left s → ((front : List Token) (events : List Event) → HasRead front left events → IsScript front events) → IsText text
+finished text left s h f = (s, h.front, h.events, h.at.spelled, f h.front h.events h.at.read)
+
+pub scans_on : (text : List ℕ) (left left' : Left) (s s' : State) (marks : List Mark) (n : Seen) → Scanned text left s
+    → ((text : List ℕ) (front : List Token) (events : List Event) → IsAt text front events left s → StepsOn text front events s left' s' marks (Ok n)) → Scanned text left' s'
+scans_on text left left' s s' marks n h step =
+    let next = step text h.front h.events h.at in
+    record { front = h.front ++ (next.0, n.kind) ∷ []; events = (h.events ++ map Marked marks) ++ Took (next.0, n.kind) ∷ []; at = next.1 }
+
+pub scan_fault : (text : List ℕ) (left left' : Left) (s s' : State) (marks : List Mark) (r : SyntaxRefused) → Scanned text left s
+    → ((text : List ℕ) (front : List Token) (events : List Event) → IsAt text front events left s → StepsOn text front events s left' s' marks (Err r)) → IsRefused text r
+scan_fault text left left' s s' marks (Fault f) h step = first s h.front h.events h.at.spelled (live h.front left h.events h.at.read) (step text h.front h.events h.at)
+scan_fault text left left' s s' marks Memory h step = tt
+
+pub stops : (front : List Token) (m : Mode) (s s' : State) (f : SyntaxFault) → IsOnly front m → Sees s m (Err f) s' → IsFaultBehind front s f
+stops front m s s' f only sees = of_text m s' only sees
+
+pub begins : (text : List ℕ) (left : Left) (s : State) → HasRead [] left [] → s ≡ start text → Scanned text left s
+begins text left s h e = record {
+  front = [];
+  events = [];
+  at = record { read = h; spelled = subst (λ z. Spelled text z [] []) (sym e) nothing_read };
+}

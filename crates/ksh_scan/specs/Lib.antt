@@ -1,0 +1,5 @@
+pub mod After
+pub mod Openings
+pub mod Scan
+pub mod Seeing
+pub mod Steps
