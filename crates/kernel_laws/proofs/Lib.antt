@@ -1,0 +1,11 @@
+pub mod Balance
+pub mod Forking
+pub mod Laws
+pub mod Moves
+pub mod Names
+pub mod Opened
+pub mod Rows
+pub mod Shells
+pub mod Sound
+pub mod Turns
+pub mod Weights
