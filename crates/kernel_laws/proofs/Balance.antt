@@ -212,6 +212,7 @@ left_none q opens d row o named none = by (is_unheld o) refl
     dropped : (b : Bool) → cond b None (at_name q opens) ≡ None
     dropped true = refl
     dropped false = none
+
     by : (b : Bool) → is_unheld o ≡ b → at_name q (row_left (reach_of opens d) row o).opens ≡ None
     by true h = rw h (at_drop row q opens named ∙ dropped (same_numbers row q))
     by false h = rw h (none_after_set row q o opens none)

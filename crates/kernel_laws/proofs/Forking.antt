@@ -78,8 +78,8 @@ module _ (s : Shell) (own : SoundShell s) (name : List ℕ) where
     handles_below = own.handles_below;
     next_low = own.next_low;
     forks_below = subst (λ l. All (λ n. n < l + 1) (keys_of (with_fork s (length s.forks + 1) name).forks)) (sym forks_more)
-      (All-keys-insert_entry nat_cmp (length s.forks + 1) (record { name = name; phase = Made }) (λ n. n < length s.forks + 1 + 1) s.forks
-      (All-weaker (λ n. n < length s.forks + 1) (λ n. n < length s.forks + 1 + 1) (λ n l. omega arith) (keys_of s.forks) own.forks_below) (omega arith));
+        (All-keys-insert_entry nat_cmp (length s.forks + 1) (record { name = name; phase = Made }) (λ n. n < length s.forks + 1 + 1) s.forks
+        (All-weaker (λ n. n < length s.forks + 1) (λ n. n < length s.forks + 1 + 1) (λ n l. omega arith) (keys_of s.forks) own.forks_below) (omega arith));
     ended = own.ended;
   }
 

@@ -137,11 +137,11 @@ pub stream_changed : (shells : Shells) (opens : Opens) (row : List ℕ) (o o' : 
     → Sound shells (set_name row o' opens)
 stream_changed shells opens row o o' sound there readers writers = record {
   balances = λ q. by_name row q
-    (λ e.
-    let c = subst (λ x. CountsAs (reading shells row) (writing shells row) x) there (sound.balances row) in
-    subst (λ q. CountsAs (reading shells q) (writing shells q) (at_name q (set_name row o' opens))) e
-    (subst (λ x. CountsAs (reading shells row) (writing shells row) x) (sym (at_set_same row o' o opens there)) (readers ∙ c.0, writers ∙ c.1, c.2)))
-    (λ other. subst (λ x. CountsAs (reading shells q) (writing shells q) x) (sym (at_set_other row q o' o opens there other)) (sound.balances q));
+      (λ e.
+      let c = subst (λ x. CountsAs (reading shells row) (writing shells row) x) there (sound.balances row) in
+      subst (λ q. CountsAs (reading shells q) (writing shells q) (at_name q (set_name row o' opens))) e
+      (subst (λ x. CountsAs (reading shells row) (writing shells row) x) (sym (at_set_same row o' o opens there)) (readers ∙ c.0, writers ∙ c.1, c.2)))
+      (λ other. subst (λ x. CountsAs (reading shells q) (writing shells q) x) (sym (at_set_other row q o' o opens there other)) (sound.balances q));
   shells_named = sound.shells_named;
   opens_named = set_named row o' opens sound.opens_named;
   few = sound.few;

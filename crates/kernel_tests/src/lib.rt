@@ -1,4 +1,4 @@
-//! Tests of the kernel in memory, as rows of what a shell does and what it is answered.
+//! Tests of the kernel in memory, as tables of what a shell asks and what it is answered.
 #![tactic(auto)]
 
 #[cfg(test)]

@@ -1,208 +1,92 @@
-// Rows of what a shell does and what it is answered.
+// A table has a row a line: the shell, what it does, and after a colon the answer. The shell 0 is the root, another
+// number its fork of that number. A word is told from the next by a space. A row without a colon is a remark.
+mod asks;
+mod forks;
 mod limits;
 mod plans;
 mod rows;
-mod shells;
+mod shown;
 
+use asks::{act, own};
 use kernel_core::Kernel;
-use kernel_ask::{Answer, Ask, Call, Handle, Mode, Phase, Program};
-use kernel_objects::{BoxEntry, BoxFault, BoxPlan};
-use ksh_base::{Items, Memory, ShellName, Text};
+use kernel_objects::BoxPlan;
+use ksh_base::{Memory, ShellName};
+use shown::{text, word};
 use std::alloc::Global;
-use std::fmt::Write;
 use std::test::Fail;
 
-// What a shell does.
-#[derive(Clone, Copy)]
-pub(crate) enum Does<'a> {
-    Open(&'a [u8], Mode),
-    Read(u32, u32),
-    Write(u32, &'a [u8]),
-    Pipe,
-    Dup(u32),
-    Close(u32),
-    List(&'a [u8]),
-    Stat(&'a [u8]),
-    Start(&'a [u8], Option<u32>),
-    WaitProgram(u32),
-    Poll(u32),
-    // Forks with at most two handles.
-    Fork(Option<u32>, Option<u32>),
-    // The last fork begins, or finds no thread.
-    Mark(u32, bool),
-    Wait(u32),
-    End,
-    Phase(u32),
+// What stands before the first such byte, and behind it.
+fn cut(text: &[u8], at: u8) -> (&[u8], &[u8]) {
+    match text.iter().position(|byte| *byte == at) {
+        Some(end) => (&text[..end], &text[end + 1..]),
+        None => (text, &text[text.len()..]),
+    }
 }
 
-// Who does it (0 is the root, another number its child of that number), what, and the answer as the debugger shows it.
-pub(crate) type Row<'a> = (u32, Does<'a>, &'a str);
+// The number that the digits are.
+fn number(digits: &[u8]) -> u32 {
+    let mut number = 0u32;
+    for digit in digits {
+        number = number
+            .wrapping_mul(10)
+            .wrapping_add(u32::from(digit.wrapping_sub(b'0')));
+    }
+    number
+}
 
-// The number of the first row that is answered otherwise.
-pub(crate) fn differs(
-    alloc: Global,
-    kernel: &mut Kernel,
-    rows: &[Row],
-) -> Result<Option<usize>, Fail> {
-    for (i, row) in rows.iter().enumerate() {
-        let root = ShellName::root(alloc);
-        let who = if row.0 == 0 {
-            root
-        } else {
-            root.child(alloc, row.0)?
-        };
-        if shown(alloc, kernel, &who, row.1)?.as_str() != row.2 {
-            return Ok(Some(i));
+fn shell(alloc: Global, digits: &[u8]) -> Result<ShellName, Memory> {
+    let root = ShellName::root(alloc);
+    if digits == b"0".as_slice() {
+        return Ok(root);
+    }
+    root.child(alloc, number(digits))
+}
+
+// What a shell is answered, as a table says it.
+fn answered(alloc: Global, kernel: &mut Kernel, row: &[u8]) -> Result<Vec<u8>, Fail> {
+    let (digits, does) = cut(row, b' ');
+    let who = shell(alloc, digits)?;
+    if !kernel.lives(&who) {
+        return Ok(word(alloc, b"gone")?);
+    }
+    if let Some(said) = own(kernel, &who, does) {
+        return Ok(word(alloc, said)?);
+    }
+    match act(alloc, kernel, &who, does)? {
+        Some(answer) => text(alloc, &answer),
+        None => Ok(word(alloc, b"waits")?),
+    }
+}
+
+fn is_so(alloc: Global, kernel: &mut Kernel, row: &[u8]) -> Result<bool, Fail> {
+    let (does, wanted) = cut(row, b':');
+    if wanted.is_empty() {
+        return Ok(true);
+    }
+    let said = answered(alloc, kernel, does)?;
+    Ok(said.as_slice() == &wanted[1..])
+}
+
+// The first row that is answered otherwise, counted from 1; 0 for none.
+fn differs(alloc: Global, kernel: &mut Kernel, table: &[u8]) -> Result<usize, Fail> {
+    let mut rows = table;
+    for at in 0..table.len() {
+        let (row, rest) = cut(rows, b'\n');
+        rows = rest;
+        if !is_so(alloc, kernel, row)? {
+            return Ok(at + 1);
         }
     }
-    Ok(None)
+    Ok(0)
 }
 
-// What is answered, or `waits`; of the calls that are no asks, what they answer.
-fn shown(alloc: Global, kernel: &mut Kernel, who: &ShellName, does: Does) -> Result<String, Fail> {
-    let mut out = String::new(alloc);
-    if !kernel.lives(who) {
-        write!(out, "gone")?;
-        return Ok(out);
-    }
-    match does {
-        Does::Mark(child, begun) => write!(out, "{:?}", mark(kernel, who, child, begun))?,
-        Does::Wait(child) => write!(out, "{:?}", wait(kernel, who, child))?,
-        Does::End => {
-            kernel.end(who);
-            write!(out, "ended")?;
-        }
-        Does::Phase(child) => write!(out, "{:?}", kernel.phase(who, child))?,
-        _ => match kernel.try_act(alloc, who, &ask(alloc, does)?)? {
-            Some(answer) => write!(out, "{answer:?}")?,
-            None => write!(out, "waits")?,
-        },
-    }
-    Ok(out)
+fn standard(alloc: Global) -> Result<Kernel, Fail> {
+    let plan = BoxPlan::standard(alloc)?;
+    Ok(Kernel::new(alloc, plan)?)
 }
 
-// Marks the last fork, where that may be; whether it was.
-fn mark(kernel: &mut Kernel, who: &ShellName, child: u32, begun: bool) -> bool {
-    if !kernel.lives(who)
-        || kernel.forks(who) != child as usize
-        || kernel.phase(who, child) != Some(Phase::Made)
-    {
-        return false;
-    }
-    kernel.mark(who, child, begun);
-    true
-}
-
-fn wait(kernel: &mut Kernel, who: &ShellName, child: u32) -> Option<bool> {
-    if !kernel.lives(who) || kernel.phase(who, child) != Some(Phase::Begun) {
-        return None;
-    }
-    Some(kernel.waited(who, child, 7))
-}
-
-fn handle(number: Option<u32>) -> Option<Handle> {
-    match number {
-        Some(number) => Some(Handle(number)),
-        None => None,
-    }
-}
-
-// The ask that it is; a Pipe where it is none.
-fn ask(alloc: Global, does: Does) -> Result<Ask<u32>, Memory> {
-    if let Does::Fork(first, second) = does {
-        let mut keep = Items::new(alloc);
-        for number in [first, second] {
-            if let Some(number) = number {
-                keep.push(Handle(number))?;
-            }
-        }
-        return Ok(Ask::Fork { start: 0, keep });
-    }
-    Ok(Ask::Asked(call(alloc, does)?))
-}
-
-fn call(alloc: Global, does: Does) -> Result<Call, Memory> {
-    Ok(match does {
-        Does::Open(path, mode) => Call::Open {
-            path: Text::of(alloc, path)?,
-            mode,
-        },
-        Does::Read(number, max) => Call::Read {
-            handle: Handle(number),
-            max,
-        },
-        Does::Write(number, bytes) => Call::Write {
-            handle: Handle(number),
-            bytes: Text::of(alloc, bytes)?,
-        },
-        Does::Dup(number) => Call::Dup {
-            handle: Handle(number),
-        },
-        Does::Close(number) => Call::Close {
-            handle: Handle(number),
-        },
-        Does::List(path) => Call::List {
-            path: Text::of(alloc, path)?,
-        },
-        Does::Stat(path) => Call::Stat {
-            path: Text::of(alloc, path)?,
-        },
-        Does::Start(path, output) => start(alloc, path, handle(output))?,
-        Does::WaitProgram(number) => Call::WaitProgram { number },
-        Does::Poll(child) => Call::Poll { child },
-        _ => Call::Pipe,
-    })
-}
-
-fn start(alloc: Global, path: &[u8], output: Option<Handle>) -> Result<Call, Memory> {
-    Ok(Call::Start {
-        program: Program {
-            path: Text::of(alloc, path)?,
-            args: Items::new(alloc),
-            env: Items::new(alloc),
-            cwd: Text::of(alloc, b"/")?,
-            input: None,
-            output,
-            errors: None,
-        },
-    })
-}
-
-pub(crate) fn standard(alloc: Global) -> Result<Kernel, Fail> {
-    Ok(Kernel::new(alloc, BoxPlan::standard(alloc)?)?)
-}
-
-// A plan of these paths, each a folder but the last, which is the entry.
-pub(crate) fn plan(
-    alloc: Global,
-    folders: &[&[u8]],
-    path: &[u8],
-    entry: BoxEntry,
-) -> Result<BoxPlan, Memory> {
-    let mut entries = Items::new(alloc);
-    for folder in folders {
-        entries.push((Text::of(alloc, *folder)?, BoxEntry::Folder))?;
-    }
-    entries.push((Text::of(alloc, path)?, entry))?;
-    Ok(BoxPlan {
-        entries,
-        input: Text::of(alloc, b"in")?,
-        refusals: Items::new(alloc),
-        patience: None,
-    })
-}
-
-pub(crate) fn fault(
-    alloc: Global,
-    folders: &[&[u8]],
-    path: &[u8],
-    entry: BoxEntry,
-) -> Result<Option<BoxFault>, Memory> {
-    Ok(Kernel::new(alloc, plan(alloc, folders, path, entry)?).err())
-}
-
-pub(crate) fn zeros(alloc: Global, many: usize) -> Result<Text, Memory> {
-    let mut bytes = Vec::new(alloc);
-    bytes.resize(many, 0)?;
-    Ok(Text::from_vec(bytes))
+// How many rows the usual box answers otherwise: the first, counted from 1, or 0.
+fn differs_at(alloc: Global, table: &[u8]) -> Result<usize, Fail> {
+    let mut kernel = standard(alloc)?;
+    differs(alloc, &mut kernel, table)
 }
