@@ -1,5 +1,6 @@
 -- Each kernel that a box comes to counts its handles.
 use Rattle.std.proofs.Common.{◌≡◌, refl, sym, ap, ◌∙◌, subst, ℕ, ◌≤◌, Bool, true, false, List, [], Option, Some, None, Result, Ok, Err, arith, IfSome}
+use Rattle.std.proofs.lemmas.List.Elements.{All-weaker}
 use Rattle.std.proofs.lemmas.Map.{keys-set_value, length-set_value}
 use Rattle.std.proofs.lemmas.Map.Views.{IfSome-lookup_from_All}
 use Rattle.std.specs.BTreeMap.{is_at}
@@ -28,11 +29,13 @@ use Rattle.kernel_core.specs.Handles.{ended, ended_by}
 use Rattle.kernel_core.specs.Opening.{opened_files, opening, plan_files, plan_kernel}
 use Rattle.kernel_core.specs.Step.{Marks, Row, Step, call_turn}
 use Rattle.kernel_core.specs.Turn.{Answers}
+use Rattle.kernel_laws.specs.Bounds.{HasBounds, IsWithin}
 use Rattle.kernel_laws.specs.Counts.{CountsHandles, EndedHoldNone, HoldsNoneEnded}
 use Rattle.kernel_laws.specs.Reached.{Reached, Opens, Asks, Ends}
 use Rattle.kernel_laws.proofs.Forking.{fork_keeps}
 use Rattle.kernel_laws.proofs.Moves.{end_sound}
 use Rattle.kernel_laws.proofs.Opened.{opening_sound}
+use Rattle.kernel_laws.proofs.Shells.{none_from_below}
 use Rattle.kernel_laws.proofs.Sound.{Sound, SoundShell, same_handles, shell_sound}
 use Rattle.kernel_laws.proofs.Turns.{Keeps, close_keeps, dup_keeps, list_keeps, open_keeps, pipe_keeps, poll_keeps, read_turn_keeps, start_keeps, stat_keeps, wait_program_keeps, write_turn_keeps}
 
@@ -71,6 +74,8 @@ module _ (k : Kernel) (sound : Sound k.shells k.opens) (who : List ℕ) (live : 
         handles_rise = own.handles_rise;
         handles_below = own.handles_below;
         next_low = own.next_low;
+        held_few = own.held_few;
+        started_low = own.started_low;
         forks_below = subst (λ l. All (λ n. n < l + 1) (keys_of (set_number child f' s.forks))) (sym long) (subst (λ ks. All (λ n. n < length s.forks + 1) ks) (sym same) own.forks_below);
         ended = own.ended;
       }
@@ -110,6 +115,21 @@ reached_sound now (Ends k who new before live e) = subst IsSound (sym e) (ended_
 
 pub counts : (F : Type 0) → CountsHandles F
 counts F k row reached = let s = reached_sound k reached in s.balances row
+
+within : (s : Shell) → SoundShell s → IsWithin s
+within s own = record {
+  few = own.held_few;
+  numbered = λ n l. none_from_below n s.handles (All-weaker (λ k. k < s.next) (λ k. k < n) (λ k low. omega arith) (keys_of s.handles) own.handles_below);
+  next = own.next_low;
+  started = own.started_low;
+}
+
+within_if : (x : Option Shell) → IfSome x SoundShell → IfSome x IsWithin
+within_if None h = tt
+within_if (Some s) h = within s h
+
+pub bounds : (F : Type 0) → HasBounds F
+bounds F k reached = let s = reached_sound k reached in (s.few, λ who. within_if (at_name who k.shells) (IfSome-lookup_from_All SoundShell (is_at (slice_cmp nat_cmp who)) k.shells s.each))
 
 holds_none : (x : Option Shell) → IfSome x SoundShell → HoldsNoneEnded x
 holds_none None h = tt

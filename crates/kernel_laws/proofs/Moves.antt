@@ -24,28 +24,44 @@ use Rattle.kernel_core.specs.Open.{next_row, row_for, row_of_two, with_one, with
 use Rattle.kernel_laws.specs.Counts.{CountsAs, only_writes, standing, standing_among}
 use Rattle.kernel_laws.proofs.Balance.{Balances, Opens, Total, all_released_balances, all_released_named, all_released_none, balances_as, held_open, released_balances, released_named, released_none, retained_balances, retained_named, retained_none, with_all, with_held}
 use Rattle.kernel_laws.proofs.Names.{at_put_other, at_put_same, by_name}
-use Rattle.kernel_laws.proofs.Rows.{insert_sorted, remove_sorted}
+use Rattle.kernel_laws.proofs.Rows.{insert_length, insert_sorted, remove_length, remove_sorted}
 use Rattle.kernel_laws.proofs.Shells.{Shells, none_from_below, standing_drop, standing_put, standing_set, standing_within}
 use Rattle.kernel_laws.proofs.Sound.{Sound, SoundShell, changed_rows, changed_sound, entered_rows, far_from_end, next_in, reading, shell_sound, writing}
 use Rattle.kernel_laws.proofs.Weights.{counts_as, counts_new, one, weigh, weigh_other, weigh_own}
+
+first_false : (a b : Bool) → (a || b) ≡ false → a ≡ false
+first_false true b h = absurd (true≢false h)
+first_false false b h = refl
 
 second_false : (a b : Bool) → (a || b) ≡ false → b ≡ false
 second_false true b h = absurd (true≢false h)
 second_false false b h = h
 
--- where there is room for handles, their numbers are low
-pub room_for : (s : Shell) (n : ℕ) → lacks_handles s n ≡ false → s.next + n ≤ 4294967296
+-- there is room for that many handles
+pub record Room (s : Shell) (n : ℕ) : Type 0 where
+  pub numbers : s.next + n ≤ 4294967296
+  pub many : length s.handles + n ≤ 1024
+
+pub room_for : (s : Shell) (n : ℕ) → lacks_handles s n ≡ false → Room s n
 room_for s n h =
+    let a : nat_lt 1024 (length s.handles + n) ≡ false = first_false (nat_lt 1024 (length s.handles + n)) (nat_lt 4294967296 (s.next + n)) h in
     let b : nat_lt 4294967296 (s.next + n) ≡ false = second_false (nat_lt 1024 (length s.handles + n)) (nat_lt 4294967296 (s.next + n)) h in
-    grind (arith, nat_tests)
+    let few : length s.handles + n ≤ 1024 = grind (arith, nat_tests) in
+    let low : s.next + n ≤ 4294967296 = grind (arith, nat_tests) in
+    record { numbers = low; many = few }
 
 -- ---- a shell with a handle more, and with one less
 
-pub given_sound : (s : Shell) (held : Held) → SoundShell s → s.live ≡ true → s.next + 1 ≤ 4294967296 → SoundShell (given s held)
-given_sound s held sound live low = record {
+pub given_more : (s : Shell) (held : Held) → SoundShell s → length (given s held).handles ≡ suc (length s.handles)
+given_more s held sound = insert_length nat_cmp_total s.handles s.next held (none_from_below s.next s.handles sound.handles_below)
+
+pub given_sound : (s : Shell) (held : Held) → SoundShell s → s.live ≡ true → Room s 1 → SoundShell (given s held)
+given_sound s held sound live space = record {
   handles_rise = insert_sorted nat_cmp_total s.handles s.next held sound.handles_rise;
   handles_below = All-keys-insert_entry nat_cmp s.next held (λ n. n < s.next + 1) s.handles (All-weaker (λ n. n < s.next) (λ n. n < s.next + 1) (λ n l. omega arith) (keys_of s.handles) sound.handles_below) (omega arith);
-  next_low = low;
+  next_low = space.numbers;
+  held_few = let e = given_more s held sound in let m = space.many in omega arith;
+  started_low = sound.started_low;
   forks_below = sound.forks_below;
   ended = λ over. absurd (true≢false (sym live ∙ over));
 }
@@ -58,6 +74,8 @@ without_sound s n sound live = record {
   handles_rise = remove_sorted (is_at (nat_cmp n)) nat_cmp s.handles sound.handles_rise;
   handles_below = All-map-remove_entry (is_at (nat_cmp n)) (λ e. e.0) (λ k. k < s.next) s.handles sound.handles_below;
   next_low = sound.next_low;
+  held_few = let l = remove_length (is_at (nat_cmp n)) s.handles in let f = sound.held_few in omega arith;
+  started_low = sound.started_low;
   forks_below = sound.forks_below;
   ended = λ over. absurd (true≢false (sym live ∙ over));
 }
@@ -88,12 +106,12 @@ module _ (shells : Shells) (opens : Opens) (sound : Sound shells opens) (who : L
       → standing good row (set_name who s' shells) ≡ standing good row shells + more
   total_changed good s' more row e = let t = standing_set good row who s s' shells there in omega arith
 
-  pub entered_one : (side : Side) (stream : Stream) → s.next + 1 ≤ 4294967296 → Sound (set_name who (with_one who s side) shells) (put_name (next_row who s) (row_for side stream) opens)
-  entered_one side stream low =
+  pub entered_one : (side : Side) (stream : Stream) → Room s 1 → Sound (set_name who (with_one who s side) shells) (put_name (next_row who s) (row_for side stream) opens)
+  entered_one side stream space =
       let held : Held = handle side (next_row who s) in
       let s' : Shell = with_one who s side in
       let total : (good : Side → Bool) (row : List ℕ) → standing good row (set_name who s' shells) ≡ standing good row shells + weigh good held row = λ good row. total_changed good s' (weigh good held row) row (standing_given good row s held own) in
-      changed_sound shells opens sound who s s' there (put_name (next_row who s) (row_for side stream) opens) (given_sound s held own live low) (omega arith)
+      changed_sound shells opens sound who s s' there (put_name (next_row who s) (row_for side stream) opens) (given_sound s held own live space) (omega arith)
       (insert_sorted nat_list_cmp_total opens (next_row who s) (row_for side stream) sound.opens_named)
       (new_row (reading shells) (writing shells) (reading (set_name who s' shells)) (writing (set_name who s' shells)) opens (next_row who s) (row_for side stream) sound.balances row_is_new
       (λ z z_w. counts_as (one is_reading side) _ (one only_writes side) _ (Some (row_for side stream))
@@ -104,16 +122,19 @@ module _ (shells : Shells) (opens : Opens) (sound : Sound shells opens) (who : L
       (λ q other. let t = total only_writes q in let z = weigh_other only_writes held q other in omega arith))
       (entered_rows shells opens sound who s s' there (row_for side stream) (omega arith))
 
-  pub entered_two : (stream : Stream) → s.next + 2 ≤ 4294967296 → Sound (set_name who (with_two who s) shells) (put_name (next_row who s) (row_of_two stream) opens)
-  entered_two stream low =
+  pub entered_two : (stream : Stream) → Room s 2 → Sound (set_name who (with_two who s) shells) (put_name (next_row who s) (row_of_two stream) opens)
+  entered_two stream space =
       let read : Held = handle Reads (next_row who s) in
       let write : Held = handle Writes (next_row who s) in
-      let first = given_sound s read own live (omega arith) in
+      let low = space.numbers in
+      let few = space.many in
+      let more = given_more s read own in
+      let first = given_sound s read own live (record { numbers = omega arith; many = omega arith }) in
       let s' : Shell = with_two who s in
       let total : (good : Side → Bool) (row : List ℕ) → standing good row (set_name who s' shells) ≡ standing good row shells + (weigh good read row + weigh good write row) =
       λ good row. total_changed good s' (weigh good read row + weigh good write row) row
       (let a = standing_given good row s read own in let b = standing_given good row (given s read) write first in omega arith) in
-      changed_sound shells opens sound who s s' there (put_name (next_row who s) (row_of_two stream) opens) (given_sound (given s read) write first live (omega arith)) (omega arith)
+      changed_sound shells opens sound who s s' there (put_name (next_row who s) (row_of_two stream) opens) (given_sound (given s read) write first live (record { numbers = omega arith; many = omega arith })) (omega arith)
       (insert_sorted nat_list_cmp_total opens (next_row who s) (row_of_two stream) sound.opens_named)
       (new_row (reading shells) (writing shells) (reading (set_name who s' shells)) (writing (set_name who s' shells)) opens (next_row who s) (row_of_two stream) sound.balances row_is_new
       (λ z z_w. counts_as 1 _ 1 _ (Some (row_of_two stream))
@@ -132,13 +153,13 @@ module _ (shells : Shells) (opens : Opens) (sound : Sound shells opens) (who : L
         (let a = standing_drop is_reading held.row n held s.handles has in let b = standing_within is_reading held.row who s shells there in let m = weigh_own is_reading held in omega arith)
         (let a = standing_drop only_writes held.row n held s.handles has in let b = standing_within only_writes held.row who s shells there in let m = weigh_own only_writes held in omega arith)
 
-    pub dup_sound : s.next + 1 ≤ 4294967296 → Sound (set_name who (given s held) shells) (retained_in held opens)
-    dup_sound low =
+    pub dup_sound : Room s 1 → Sound (set_name who (given s held) shells) (retained_in held opens)
+    dup_sound space =
         let few : (row : List ℕ) → reading shells row + 1 ≤ most_count = λ row. let f = far_from_end is_reading shells row sound.few sound.each in omega arith in
         let few_w : (row : List ℕ) → writing shells row + 1 ≤ most_count = λ row. let f = far_from_end only_writes shells row sound.few sound.each in omega arith in
         let total : (good : Side → Bool) (row : List ℕ) → standing good row shells + weigh good held row ≡ standing good row (set_name who (given s held) shells) = λ good row. sym (total_changed good (given s held) (weigh good held row) row (standing_given good row s held own)) in
         let b = retained_balances (reading shells) (writing shells) opens held sound.balances held_row.0 held_row.1 few few_w in
-        changed_sound shells opens sound who s (given s held) there (retained_in held opens) (given_sound s held own live low) (omega arith) (retained_named held opens sound.opens_named)
+        changed_sound shells opens sound who s (given s held) there (retained_in held opens) (given_sound s held own live space) (omega arith) (retained_named held opens sound.opens_named)
         (balances_as _ _ _ _ (retained_in held opens) (total is_reading) (total only_writes) b)
         (changed_rows shells opens sound who s (given s held) there (retained_in held opens) (omega arith) (λ q none. retained_none q held opens none))
 
@@ -159,6 +180,8 @@ module _ (shells : Shells) (opens : Opens) (sound : Sound shells opens) (who : L
     handles_rise = none_rise;
     handles_below = All-nil (λ n. n < s.next);
     next_low = own.next_low;
+    held_few = omega arith;
+    started_low = own.started_low;
     forks_below = own.forks_below;
     ended = λ e. refl;
   }

@@ -78,6 +78,8 @@ root_sound = record {
   handles_rise = insert_sorted nat_cmp_total (put_number 1 (handle Writes (number 1)) (put_number 2 (handle Writes (number 2)) [])) 0 (handle Reads (number 0)) (insert_sorted nat_cmp_total (put_number 2 (handle Writes (number 2)) []) 1 (handle Writes (number 1)) (insert_sorted nat_cmp_total [] 2 (handle Writes (number 2)) none_rise));
   handles_below = All-cons (λ n. n < 3) 0 (1 ∷ 2 ∷ []) (omega arith) (All-cons (λ n. n < 3) 1 (2 ∷ []) (omega arith) (All-cons (λ n. n < 3) 2 [] (omega arith) (All-nil (λ n. n < 3))));
   next_low = omega arith;
+  held_few = omega arith;
+  started_low = omega arith;
   forks_below = All-nil (λ n. n < 1);
   ended = λ over. absurd (true≢false over);
 }

@@ -1,5 +1,5 @@
 -- Rows in the order of their keys, through a change.
-use Rattle.std.proofs.Common.{◌≡◌, refl, sym, ap, ◌∙◌, ℕ, suc, ◌+◌, Bool, true, false, cond, List, [], ◌∷◌, length, Option, Some, None, Ordering, Less, Equal, Greater, is_eq, arith}
+use Rattle.std.proofs.Common.{◌≡◌, refl, sym, ap, ◌∙◌, ℕ, suc, ◌≤◌, Bool, true, false, cond, List, [], ◌∷◌, length, Option, Some, None, Ordering, Less, Equal, Greater, is_eq, arith}
 use Rattle.std.proofs.lemmas.Bool.{cond-false}
 use Rattle.std.proofs.lemmas.Cmp.{tied_itself}
 use Rattle.std.proofs.lemmas.Map.{NonePasses, lookup-none, none_passes_from_lookup}
@@ -75,6 +75,14 @@ module _ {K X : Type 0} (test : K → Bool) where
       by : (b : Bool) → IsStrictlySortedBy R (keys_of (remove_entry test es)) → IsStrictlySortedBy R (keys_of (cond b es (e ∷ remove_entry test es)))
       by true h = s.1
       by false h = (each_remove (λ y. R e.0 y ≡ Less) es s.0, h)
+
+  pub remove_length : (es : List (K × X)) → length (remove_entry test es) ≤ length es
+  remove_length [] = omega arith
+  remove_length (e ∷ es) = by (test e.0) (remove_length es)
+    where
+      by : (b : Bool) → length (remove_entry test es) ≤ length es → length (cond b es (e ∷ remove_entry test es)) ≤ suc (length es)
+      by true h = omega arith
+      by false h = omega arith
 
   set_passes : (q : K → Bool) (es : List (K × X)) (w : X) → NonePasses q es → NonePasses q (set_value test es w)
   set_passes q [] w a = a

@@ -5,7 +5,7 @@ use Rattle.std.proofs.lemmas.Cmp.{nat_cmp_total, nat_list_cmp_total}
 use Rattle.std.proofs.lemmas.List.Elements.{All-head, All-tail, All-weaker}
 use Rattle.std.proofs.lemmas.List.Sums.{count_by-le-length, sum_by-le}
 use Rattle.std.proofs.lemmas.Map.Entries.{length-keys_of, length-values_of, sum_by-insert_entry, sum_by-remove_entry, sum_by-set_value}
-use Rattle.std.proofs.lemmas.Map.Views.{IfSome-lookup_from_All, length-le_from_below}
+use Rattle.std.proofs.lemmas.Map.Views.{IfSome-lookup_from_All}
 use Rattle.std.specs.BTreeMap.{is_at}
 use Rattle.std.specs.Cmp.{nat_cmp_is}
 use Rattle.std.specs.Cmp.Lexicographic.{slice_cmp}
@@ -43,9 +43,6 @@ below_from_some n next rows x a found = ⊎_elim
     (λ l. l)
     (λ l. let none = none_from_below n rows (All-weaker (λ k. k < next) (λ k. k < n) (λ k low. omega arith) (keys_of rows) a) in absurd (some_is x (sym found ∙ none)))
     (cases_lt n next)
-
-pub few_below : {X : Type 0} (next : ℕ) (rows : List (ℕ × X)) → IsStrictlySortedBy nat_cmp (keys_of rows) → All (λ k. k < next) (keys_of rows) → length rows ≤ next
-few_below next rows s a = let n = length-le_from_below next (keys_of rows) s a in let e = length-keys_of rows in omega arith
 
 -- ---- a handle of a shell
 

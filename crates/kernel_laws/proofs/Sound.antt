@@ -22,7 +22,7 @@ use Rattle.kernel_core.specs.Limits.{most_count}
 use Rattle.kernel_laws.specs.Counts.{CountsAs, only_writes, standing, standing_among}
 use Rattle.kernel_laws.proofs.Balance.{Balances, Opens, Total, balances_as, set_named}
 use Rattle.kernel_laws.proofs.Names.{AreNamed, at_put_other, at_put_same, at_set_other, at_set_same, by_name, none_after_set}
-use Rattle.kernel_laws.proofs.Shells.{Shells, few_below, standing_few, standing_set}
+use Rattle.kernel_laws.proofs.Shells.{Shells, standing_few, standing_set}
 
 -- the number of a shell's next handle; 0 for no shell
 abbrev pub next_in : Option Shell → ℕ
@@ -33,6 +33,8 @@ pub record SoundShell (s : Shell) : Type 0 where
   pub handles_rise : IsStrictlySortedBy nat_cmp (keys_of s.handles)
   pub handles_below : All (λ n. n < s.next) (keys_of s.handles)
   pub next_low : s.next ≤ 4294967296
+  pub held_few : length s.handles ≤ 1024
+  pub started_low : s.started ≤ 4294967295
   pub forks_below : All (λ n. n < length s.forks + 1) (keys_of s.forks)
   pub ended : s.live ≡ false → s.handles ≡ []
 
@@ -60,7 +62,7 @@ shell_sound shells who s a there = subst (λ o. IfSome o SoundShell) there (IfSo
 -- no count comes near its type's end
 pub far_from_end : (good : Side → Bool) (shells : Shells) (row : List ℕ) → length shells ≤ 4096 → All SoundShell (values_of shells) → standing good row shells + 4294967296 ≤ most_count
 far_from_end good shells row few each =
-    let most = standing_few good row 4294967296 shells (All-weaker SoundShell (λ s. length s.handles ≤ 4294967296) (λ s h. let n = few_below s.next s.handles h.handles_rise h.handles_below in let m = h.next_low in omega arith) (values_of shells) each) in
+    let most = standing_few good row 4294967296 shells (All-weaker SoundShell (λ s. length s.handles ≤ 4294967296) (λ s h. let n = h.held_few in omega arith) (values_of shells) each) in
     omega arith
 
 -- ---- a shell changes

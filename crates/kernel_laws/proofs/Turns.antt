@@ -1,5 +1,6 @@
 -- Each call leads from such a kernel to one.
 use Rattle.std.proofs.Common.{◌≡◌, refl, sym, ap, ◌∙◌, subst, ℕ, ◌+◌, ◌<◌, ◌≤◌, ◌||◌, ◌&&◌, Bool, true, false, List, [], ◌∷◌, ◌++◌, length, Option, Some, None, Result, Ok, Err, arith, is_none, true≢false, if◌then◌else◌, nat_le, nat_lt, ◌==◌, take, drop}
+use Rattle.std.proofs.lemmas.Bool.Decides.{nat_tests}
 use Rattle.kernel_ask.specs.declared.ask.Answer.{Answer}
 use Rattle.kernel_ask.specs.declared.ask.Answer.TheVariants as answer
 use Rattle.kernel_ask.specs.declared.ask.Handle.{Handle}
@@ -8,7 +9,7 @@ use Rattle.kernel_ask.specs.declared.ask.Mode.TheVariants as mode
 use Rattle.kernel_ask.specs.declared.ask.Phase.{Phase}
 use Rattle.kernel_ask.specs.declared.ask.Program.{Program}
 use Rattle.kernel_ask.specs.declared.ask.Refusal.{Refusal}
-use Rattle.kernel_ask.specs.declared.ask.Refusal.TheVariants.{Broken}
+use Rattle.kernel_ask.specs.declared.ask.Refusal.TheVariants.{BadHandle, Broken}
 use Rattle.kernel_objects.specs.declared.files.Node.{Node}
 use Rattle.kernel_objects.specs.declared.files.Node.TheVariants as node
 use Rattle.kernel_objects.specs.declared.opened.Held.{Held}
@@ -27,10 +28,10 @@ use Rattle.kernel_core.specs.declared.programs.Run.{Run}
 use Rattle.kernel_core.specs.Files.{is_full}
 use Rattle.kernel_core.specs.Forks.{has_begun, lives, lives_in, poll_fork, poll_turn}
 use Rattle.kernel_core.specs.Handles.{close_held, close_turn, dup_held, dup_turn, is_reading, is_writing, lacks_handles}
-use Rattle.kernel_core.specs.Limits.{most_held}
+use Rattle.kernel_core.specs.Limits.{most_held, most_number}
 use Rattle.kernel_core.specs.Look.{facts, list_refusal, list_turn, names_in, stat_node, stat_turn}
 use Rattle.kernel_core.specs.Open.{is_append, node_refusal, open_by, open_node, open_turn, opened_at, pipe_by, pipe_turn, scratch_by, side_of, stream_of, too_many}
-use Rattle.kernel_core.specs.Programs.{on_output, output_of, run_of, start_output, start_refusal, start_row, start_run, start_turn, wait_program_turn, wait_status}
+use Rattle.kernel_core.specs.Programs.{are_given, on_output, output_of, run_of, start_output, start_refusal, start_row, start_run, start_turn, wait_program_turn, wait_status}
 use Rattle.kernel_core.specs.Transfer.{RowTurn, Says, Holds, Written, Wrote, Unwritten, by_held, by_row, file_written, held_for, on_row, read_file, read_pipe, read_stream, read_turn, gives, taken, scratch_written, write_bytes, write_file, write_node, write_pipe, write_stream, write_turn}
 use Rattle.kernel_core.specs.Turn.{Turn, Answers, Waits, by_shell, unless}
 use Rattle.kernel_laws.proofs.Moves.{close_sound, dup_sound, entered_one, entered_two, room_for}
@@ -103,6 +104,14 @@ write_keeps (Pipe held) piece o d =
     row_choice o (o.readers == 0) (Says (answer.Refused Broken) o d) (if nat_lt most_held (length held + length piece) then Holds else taken (Pipe (held ++ piece)) o d) (refl, refl)
     (row_choice o (nat_lt most_held (length held + length piece)) Holds (taken (Pipe (held ++ piece)) o d) tt (refl, refl))
 write_keeps (Scratch bytes read_at write_at) piece o d = scratch_keeps read_at o d (write_bytes false write_at piece bytes)
+
+-- a program is started only where its number isn't past the last
+few_started : (s : Shell) (p : Program) → start_refusal s p ≡ None → s.started < 4294967295
+few_started s p e = by (are_given s p) e
+  where
+    by : (b : Bool) → (if b then too_many (nat_le most_number s.started) else Some BadHandle) ≡ None → s.started < 4294967295
+    by true e = let h : nat_le 4294967295 s.started ≡ false = room (nat_le most_number s.started) e in grind (arith, nat_tests)
+    by false e = absurd cc
 
 module _ (k : Kernel) (sound : Sound k.shells k.opens) where
   pub unless_keeps : (why : Option Refusal) (turn : Turn) → (why ≡ None → Keeps turn) → Keeps (unless k why turn)
@@ -196,34 +205,34 @@ module _ (k : Kernel) (sound : Sound k.shells k.opens) where
 
     -- ---- programs
 
-    noted : (s : Shell) (status : ℕ) → at_name who k.shells ≡ Some s → SoundShell (with_program s status)
-    noted s status there =
+    noted : (s : Shell) (status : ℕ) → at_name who k.shells ≡ Some s → s.started < 4294967295 → SoundShell (with_program s status)
+    noted s status there low =
         let own = shell_sound k.shells who s sound.each there in
-        record { handles_rise = own.handles_rise; handles_below = own.handles_below; next_low = own.next_low; forks_below = own.forks_below; ended = own.ended }
+        record { handles_rise = own.handles_rise; handles_below = own.handles_below; next_low = own.next_low; held_few = own.held_few; started_low = omega arith; forks_below = own.forks_below; ended = own.ended }
 
-    started : (s : Shell) (status : ℕ) → at_name who k.shells ≡ Some s → Sound (set_name who (with_program s status) k.shells) k.opens
-    started s status there = same_handles k.shells k.opens sound who s (with_program s status) there (noted s status there) refl refl (omega arith)
+    started : (s : Shell) (status : ℕ) → at_name who k.shells ≡ Some s → s.started < 4294967295 → Sound (set_name who (with_program s status) k.shells) k.opens
+    started s status there low = same_handles k.shells k.opens sound who s (with_program s status) there (noted s status there low) refl refl (omega arith)
 
-    taken_keeps : (s : Shell) (status : ℕ) (row : List ℕ) (o o' : Opened) → at_name who k.shells ≡ Some s → at_name row k.opens ≡ Some o → o'.readers ≡ o.readers → o'.writers ≡ o.writers
+    taken_keeps : (s : Shell) (status : ℕ) (row : List ℕ) (o o' : Opened) → at_name who k.shells ≡ Some s → s.started < 4294967295 → at_name row k.opens ≡ Some o → o'.readers ≡ o.readers → o'.writers ≡ o.writers
         → Sound (set_name who (with_program s status) k.shells) (set_name row o' k.opens)
-    taken_keeps s status row o o' there is_open readers writers = stream_changed (set_name who (with_program s status) k.shells) k.opens row o o' (started s status there) is_open readers writers
+    taken_keeps s status row o o' there low is_open readers writers = stream_changed (set_name who (with_program s status) k.shells) k.opens row o o' (started s status there low) is_open readers writers
 
-    on_output_keeps : (s : Shell) (status : ℕ) (row : List ℕ) (o : Opened) (turn : RowTurn) → at_name who k.shells ≡ Some s → at_name row k.opens ≡ Some o → KeepsCounts o turn → Keeps (on_output k who s status row turn)
-    on_output_keeps s status row o (Says answer.Taken o' d) there is_open h = taken_keeps s status row o o' there is_open h.0 h.1
-    on_output_keeps s status row o (Says a o' d) there is_open h = stream_changed k.shells k.opens row o o' sound is_open h.0 h.1
-    on_output_keeps s status row o Holds there is_open h = tt
+    on_output_keeps : (s : Shell) (status : ℕ) (row : List ℕ) (o : Opened) (turn : RowTurn) → at_name who k.shells ≡ Some s → s.started < 4294967295 → at_name row k.opens ≡ Some o → KeepsCounts o turn → Keeps (on_output k who s status row turn)
+    on_output_keeps s status row o (Says answer.Taken o' d) there low is_open h = taken_keeps s status row o o' there low is_open h.0 h.1
+    on_output_keeps s status row o (Says a o' d) there low is_open h = stream_changed k.shells k.opens row o o' sound is_open h.0 h.1
+    on_output_keeps s status row o Holds there low is_open h = tt
 
-    start_row_keeps : (s : Shell) (run : Run) (row : List ℕ) (x : Option Opened) → at_name who k.shells ≡ Some s → at_name row k.opens ≡ x → Keeps (start_row k who s run row x)
-    start_row_keeps s run row None there is_open = sound
-    start_row_keeps s run row (Some o) there is_open = on_output_keeps s run.status row o (write_stream o.stream run.output o k.stores) there is_open (write_keeps o.stream run.output o k.stores)
+    start_row_keeps : (s : Shell) (run : Run) (row : List ℕ) (x : Option Opened) → at_name who k.shells ≡ Some s → s.started < 4294967295 → at_name row k.opens ≡ x → Keeps (start_row k who s run row x)
+    start_row_keeps s run row None there low is_open = sound
+    start_row_keeps s run row (Some o) there low is_open = on_output_keeps s run.status row o (write_stream o.stream run.output o k.stores) there low is_open (write_keeps o.stream run.output o k.stores)
 
-    start_output_keeps : (s : Shell) (run : Run) (x : Option Held) → at_name who k.shells ≡ Some s → Keeps (start_output k who s run x)
-    start_output_keeps s run None there = started s run.status there
-    start_output_keeps s run (Some held) there = start_row_keeps s run held.row (at_name held.row k.opens) there refl
+    start_output_keeps : (s : Shell) (run : Run) (x : Option Held) → at_name who k.shells ≡ Some s → s.started < 4294967295 → Keeps (start_output k who s run x)
+    start_output_keeps s run None there low = started s run.status there low
+    start_output_keeps s run (Some held) there low = start_row_keeps s run held.row (at_name held.row k.opens) there low refl
 
     start_run_keeps : (s : Shell) (p : Program) (x : Result Run Refusal) → at_name who k.shells ≡ Some s → Keeps (start_run k who s p x)
     start_run_keeps s p (Err why) there = sound
-    start_run_keeps s p (Ok run) there = unless_keeps (start_refusal s p) _ (λ e. start_output_keeps s run (output_of s p.output) there)
+    start_run_keeps s p (Ok run) there = unless_keeps (start_refusal s p) _ (λ e. start_output_keeps s run (output_of s p.output) there (few_started s p e))
 
     pub start_keeps : (p : Program) → Keeps (start_turn k who p)
     start_keeps p = by_shell_keeps (at_name who k.shells) _ (λ s there. unless_keeps (prefix_refusal k.stores.files p.path) _ (λ e. start_run_keeps s p (run_of (node_at k.stores.files p.path)) there))
@@ -233,7 +242,7 @@ module _ (k : Kernel) (sound : Sound k.shells k.opens) where
     wait_status_keeps s n (Some status) there =
         let own = shell_sound k.shells who s sound.each there in
         same_handles k.shells k.opens sound who s (record s { programs = drop_number n s.programs }) there
-        (record { handles_rise = own.handles_rise; handles_below = own.handles_below; next_low = own.next_low; forks_below = own.forks_below; ended = own.ended }) refl refl (omega arith)
+        (record { handles_rise = own.handles_rise; handles_below = own.handles_below; next_low = own.next_low; held_few = own.held_few; started_low = own.started_low; forks_below = own.forks_below; ended = own.ended }) refl refl (omega arith)
 
     pub wait_program_keeps : (n : ℕ) → Keeps (wait_program_turn k who n)
     wait_program_keeps n = by_shell_keeps (at_name who k.shells) _ (λ s there. wait_status_keeps s n (at_number n s.programs) there)

@@ -1,6 +1,7 @@
 //! Laws of the kernel in memory, over its definition alone: they hold in each kernel that a box comes to.
 #![tactic(auto)]
 
+ghost use Rattle.kernel_laws.specs.Bounds.{HasBounds};
 ghost use Rattle.kernel_laws.specs.Counts.{CountsHandles, EndedHoldNone};
 
 /// Each open row counts the handles that stand for it, those that read (or do both) and those that only write, over
@@ -9,4 +10,11 @@ ghost use Rattle.kernel_laws.specs.Counts.{CountsHandles, EndedHoldNone};
 pub fn handles_are_counted<F>()
     ensures counts { CountsHandles F }
     ensures ended { EndedHoldNone F }
+{}
+
+/// A box has at most 4,096 shells. Each holds at most 1,024 handles, by numbers below that of its next one; neither these
+/// nor the numbers of its programs pass 4,294,967,295.
+#[tactic(auto, using(crate::proofs::Laws::bounds))]
+pub fn shells_are_bounded<F>()
+    ensures { HasBounds F }
 {}
