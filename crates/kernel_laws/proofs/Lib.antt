@@ -1,5 +1,6 @@
 pub mod Balance
 pub mod Forking
+pub mod LastNumbers
 pub mod Laws
 pub mod Moves
 pub mod Names

@@ -1,3 +1,5 @@
 pub mod Bounds
 pub mod Counts
+pub mod LastNumbers
+pub mod Nameless
 pub mod Reached

@@ -3,6 +3,7 @@
 
 ghost use Rattle.kernel_laws.specs.Bounds.{HasBounds};
 ghost use Rattle.kernel_laws.specs.Counts.{CountsHandles, EndedHoldNone};
+ghost use Rattle.kernel_laws.specs.LastNumbers.{GivesLastNumber, NeedsTwoNumbers, StartsNoneAfter};
 
 /// Each open row counts the handles that stand for it, those that read (or do both) and those that only write, over
 /// all shells; it is open as long as there is one, and no handle stands for a row that isn't open. A shell that has
@@ -17,4 +18,13 @@ pub fn handles_are_counted<F>()
 #[tactic(auto, using(crate::proofs::Laws::bounds))]
 pub fn shells_are_bounded<F>()
     ensures { HasBounds F }
+{}
+
+/// A shell is given the number 4,294,967,295 for a handle, and then no handle more: Dup is refused as TooMany. Pipe and
+/// Scratch, which need two numbers, are refused where one is left. No program is started after the 4,294,967,295th.
+#[tactic(auto, using(crate::proofs::LastNumbers::gives_last, crate::proofs::LastNumbers::needs_two, crate::proofs::LastNumbers::starts_none_after))]
+pub fn numbers_end()
+    ensures handles { GivesLastNumber }
+    ensures pairs { NeedsTwoNumbers }
+    ensures programs { StartsNoneAfter }
 {}
