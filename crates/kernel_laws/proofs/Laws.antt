@@ -108,7 +108,7 @@ module _ (k : Kernel) (sound : Sound k.shells k.opens) (who : List ℕ) (live : 
   ended_by_sound None there = sound
   ended_by_sound (Some s) there = end_sound k.shells k.opens sound who s there (live_there s there) k.stores
 
-reached_sound : {F : Type 0} (k : Kernel) → Reached F k → IsSound k
+pub reached_sound : {F : Type 0} (k : Kernel) → Reached F k → IsSound k
 reached_sound k (Opens plan same e) = opened_sound plan.input (plan_files plan.entries) same e
 reached_sound now (Asks k who ask a new before step) = row_sound k (reached_sound k before) who step.live ask a new step.row
 reached_sound now (Ends k who new before live e) = subst IsSound (sym e) (ended_by_sound k (reached_sound k before) who live (at_name who k.shells) refl)

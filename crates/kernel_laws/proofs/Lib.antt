@@ -3,6 +3,8 @@ pub mod Forking
 pub mod LastNumbers
 pub mod Laws
 pub mod Moves
+pub mod Nameless
+pub mod NamelessTurns
 pub mod Names
 pub mod Opened
 pub mod Rows

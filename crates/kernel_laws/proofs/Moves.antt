@@ -98,7 +98,7 @@ module _ (shells : Shells) (opens : Opens) (sound : Sound shells opens) (who : L
   own : SoundShell s
   own = shell_sound shells who s sound.each there
 
-  row_is_new : at_name (next_row who s) opens ≡ None
+  pub row_is_new : at_name (next_row who s) opens ≡ None
   row_is_new = sound.rows_new who s.next (let e = ap next_in there in omega arith)
 
   -- what the change is to the totals

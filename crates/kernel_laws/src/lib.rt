@@ -4,6 +4,7 @@
 ghost use Rattle.kernel_laws.specs.Bounds.{HasBounds};
 ghost use Rattle.kernel_laws.specs.Counts.{CountsHandles, EndedHoldNone};
 ghost use Rattle.kernel_laws.specs.LastNumbers.{GivesLastNumber, NeedsTwoNumbers, StartsNoneAfter};
+ghost use Rattle.kernel_laws.specs.Nameless.{CountsNameless};
 
 /// Each open row counts the handles that stand for it, those that read (or do both) and those that only write, over
 /// all shells; it is open as long as there is one, and no handle stands for a row that isn't open. A shell that has
@@ -27,4 +28,10 @@ pub fn numbers_end()
     ensures handles { GivesLastNumber }
     ensures pairs { NeedsTwoNumbers }
     ensures programs { StartsNoneAfter }
+{}
+
+/// The count of nameless files is that of the open rows that are one: it counts until its last handle goes.
+#[tactic(auto, using(crate::proofs::NamelessTurns::nameless))]
+pub fn nameless_files_are_counted<F>()
+    ensures { CountsNameless F }
 {}
