@@ -1,9 +1,8 @@
 -- Open rows that count the handles of given totals.
-use Rattle.std.proofs.Common.{◌≡◌, refl, sym, ap, ◌∙◌, subst, ℕ, ◌+◌, ◌<◌, ◌≤◌, Bool, true, false, cond, List, [], ◌∷◌, length, Option, Some, None, arith, All, IsSome, is_some}
+use Rattle.std.proofs.Common.{◌≡◌, refl, sym, ap, ◌∙◌, subst, ℕ, ◌+◌, ◌≤◌, Bool, true, false, cond, List, [], ◌∷◌, length, Option, Some, None, arith, All, IsSome, is_some}
 use Rattle.std.proofs.lemmas.List.Elements.{All-head, All-tail, All-weaker}
 use Rattle.std.proofs.lemmas.List.Sums.{sum_by-cons}
 use Rattle.std.proofs.lemmas.Map.{keys-set_value}
-use Rattle.std.proofs.lemmas.Cmp.{nat_list_cmp_total}
 use Rattle.std.specs.BTreeMap.{is_at}
 use Rattle.std.specs.Cmp.Lexicographic.{slice_cmp}
 use Rattle.std.specs.List.Sorted.{IsStrictlySortedBy}
@@ -13,14 +12,14 @@ use Rattle.ksh_base.specs.Text.{same_numbers}
 use Rattle.kernel_objects.specs.declared.opened.Held.{Held}
 use Rattle.kernel_objects.specs.declared.opened.Opened.{Opened}
 use Rattle.kernel_objects.specs.declared.opened.Side.{Side}
-use Rattle.kernel_objects.specs.Rows.{at_name, set_name, put_name, drop_name}
+use Rattle.kernel_objects.specs.Rows.{at_name, set_name, drop_name}
 use Rattle.kernel_core.specs.declared.kernel.Stores.{Stores}
 use Rattle.kernel_core.specs.Forks.{all_retained}
-use Rattle.kernel_core.specs.Handles.{Reach, all_released, is_reading, is_unheld, left_by, reach_of, released, retained_in, row_left, row_released, row_shared, shared}
+use Rattle.kernel_core.specs.Handles.{all_released, is_reading, is_unheld, left_by, reach_of, released, retained_in, row_left, row_released, row_shared, shared}
 use Rattle.kernel_core.specs.Limits.{most_count}
 use Rattle.kernel_laws.specs.Counts.{CountsAs, only_writes, stands, standing_among}
-use Rattle.kernel_laws.proofs.Names.{AreNamed, at_drop, at_drop_other, at_drop_same, at_put_other, at_put_same, at_set_other, at_set_same, by_name, none_after_set}
-use Rattle.kernel_laws.proofs.Rows.{insert_sorted, remove_sorted}
+use Rattle.kernel_laws.proofs.Names.{AreNamed, at_drop, at_drop_other, at_drop_same, at_set_other, at_set_same, by_name, none_after_set}
+use Rattle.kernel_laws.proofs.Rows.{remove_sorted}
 use Rattle.kernel_laws.proofs.Weights.{counts_as, counts_more, held_by, less_by, one, one_side, open_by, unheld_by, weigh, weigh_other, weigh_own}
 
 abbrev pub Opens : Type 0

@@ -1,5 +1,5 @@
 -- A fork leads from such a kernel to one.
-use Rattle.std.proofs.Common.{◌≡◌, refl, sym, ap, ◌∙◌, subst, ℕ, suc, ◌+◌, ◌<◌, ◌≤◌, ◌||◌, Bool, true, false, List, [], ◌∷◌, ◌++◌, length, Option, Some, None, arith, All, IsSome, is_some, true≢false, if◌then◌else◌, nat_le, add-one, length-append}
+use Rattle.std.proofs.Common.{◌≡◌, refl, sym, ap, ◌∙◌, subst, ℕ, suc, ◌+◌, ◌<◌, ◌≤◌, ◌||◌, Bool, true, false, List, [], ◌∷◌, ◌++◌, length, Option, Some, None, arith, All, IsSome, is_some, true≢false, if◌then◌else◌, nat_le, length-append}
 use Rattle.std.proofs.lemmas.Bool.Decides.{nat_tests}
 use Rattle.std.proofs.lemmas.Cmp.{nat_cmp_total, nat_list_cmp_total}
 use Rattle.std.proofs.lemmas.List.{same_from_push}
@@ -17,22 +17,18 @@ use Rattle.std.specs.Cmp.Lexicographic.{slice_cmp}
 use Rattle.std.specs.List.Sorted.{IsStrictlySortedBy}
 use Rattle.std.specs.Map.{keys_of, values_of}
 use Rattle.std.specs.Ordering.{nat_cmp}
-use Rattle.ksh_base.specs.Text.{same_numbers}
 use Rattle.kernel_ask.specs.declared.ask.Handle.{Handle}
-use Rattle.kernel_ask.specs.declared.ask.Phase.{Phase}
 use Rattle.kernel_ask.specs.declared.ask.Phase.TheVariants.{Made}
 use Rattle.kernel_objects.specs.declared.opened.Held.{Held}
-use Rattle.kernel_objects.specs.declared.opened.Opened.{Opened}
 use Rattle.kernel_objects.specs.declared.opened.Side.{Side}
-use Rattle.kernel_objects.specs.declared.shell.Forked.{Forked}
 use Rattle.kernel_objects.specs.declared.shell.Shell.{Shell}
-use Rattle.kernel_objects.specs.Rows.{at_name, set_name, put_name, at_number, put_number, set_number}
+use Rattle.kernel_objects.specs.Rows.{at_name, set_name, put_name, at_number, put_number}
 use Rattle.kernel_core.specs.declared.kernel.Kernel.{Kernel}
 use Rattle.kernel_core.specs.Forks.{all_retained, fork_kept, fork_turn, forked_with, forks_in, kept_from, kept_one, shell_with, with_fork}
 use Rattle.kernel_core.specs.Handles.{is_reading}
-use Rattle.kernel_core.specs.Limits.{most_count, most_number, most_shells}
+use Rattle.kernel_core.specs.Limits.{most_number, most_shells}
 use Rattle.kernel_core.specs.Open.{too_many}
-use Rattle.kernel_laws.specs.Counts.{CountsAs, only_writes, standing, standing_among}
+use Rattle.kernel_laws.specs.Counts.{only_writes, standing, standing_among}
 use Rattle.kernel_laws.proofs.Balance.{Balances, IsOpen, Opens, all_retained_balances, all_retained_named, all_retained_none, balances_as, with_all}
 use Rattle.kernel_laws.proofs.Moves.{held_row, none_rise}
 use Rattle.kernel_laws.proofs.Names.{at_put_other, at_put_same, at_set_same, by_name, none_after_set}

@@ -1,5 +1,5 @@
 -- The numbers end where the limits say.
-use Rattle.std.proofs.Common.{◌≡◌, refl, ap, ◌∙◌, ℕ, ◌+◌, ◌<◌, ◌||◌, Bool, true, false, List, [], length, Option, Some, None, Result, Ok, arith, nat_lt, nat_le, if◌then◌else◌}
+use Rattle.std.proofs.Common.{◌≡◌, refl, ap, ◌∙◌, ℕ, ◌+◌, ◌<◌, ◌||◌, Bool, true, false, List, [], length, Some, None, Ok, arith, nat_lt, nat_le, if◌then◌else◌}
 use Rattle.std.proofs.lemmas.Bool.Decides.{nat_tests}
 use Rattle.kernel_ask.specs.declared.ask.Answer.TheVariants.{Opened as SaysOpened}
 use Rattle.kernel_ask.specs.declared.ask.Handle.{Handle}
@@ -17,7 +17,7 @@ use Rattle.kernel_core.specs.declared.programs.Run.{Run}
 use Rattle.kernel_core.specs.Files.{is_full}
 use Rattle.kernel_core.specs.Handles.{dup_held, dup_turn, lacks_handles, retained}
 use Rattle.kernel_core.specs.Limits.{most_number}
-use Rattle.kernel_core.specs.Open.{entered, open_by, pair_of, pipe_by, row_of_two, scratch_by, too_many, with_nameless, with_two}
+use Rattle.kernel_core.specs.Open.{entered, open_by, pair_of, pipe_by, row_of_two, too_many, with_nameless, with_two}
 use Rattle.kernel_core.specs.Programs.{are_given, output_of, run_of, start_output, start_refusal, start_run, start_turn}
 use Rattle.kernel_core.specs.Turn.{Turn, Answers, by_shell, refused, unless, with_shell}
 use Rattle.kernel_laws.specs.LastNumbers.{GivesLastNumber, NeedsTwoNumbers, StartsNoneAfter}
@@ -71,7 +71,7 @@ pub needs_two : NeedsTwoNumbers
 needs_two k who s there = record {
   pipe = λ e. at_shell k who s there (λ s. pipe_by k who s) ∙ refused_where k who s there (lacks_handles s 2) (pair_of s (entered k who s (with_two who s) (row_of_two (stream.Pipe [])))) (lacks s 2 (omega arith));
   scratch = λ path e. at_shell k who s there (λ s. open_by k who s path Scratch)
-    ∙ refused_where k who s there (lacks_handles s 2 || is_full k.stores) (pair_of s (with_nameless (entered k who s (with_two who s) (row_of_two (stream.Scratch [] 0 0))))) (ap (λ b. b || is_full k.stores) (lacks s 2 (omega arith)));
+      ∙ refused_where k who s there (lacks_handles s 2 || is_full k.stores) (pair_of s (with_nameless (entered k who s (with_two who s) (row_of_two (stream.Scratch [] 0 0))))) (ap (λ b. b || is_full k.stores) (lacks s 2 (omega arith)));
 }
 
 pub starts_none_after : StartsNoneAfter

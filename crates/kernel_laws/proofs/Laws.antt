@@ -1,5 +1,5 @@
 -- Each kernel that a box comes to counts its handles.
-use Rattle.std.proofs.Common.{◌≡◌, refl, sym, ap, ◌∙◌, subst, ℕ, ◌≤◌, Bool, true, false, List, [], Option, Some, None, Result, Ok, Err, arith, IfSome}
+use Rattle.std.proofs.Common.{◌≡◌, refl, sym, ap, ◌∙◌, subst, ℕ, ◌≤◌, true, List, Option, Some, None, Result, Ok, Err, arith, IfSome}
 use Rattle.std.proofs.lemmas.List.Elements.{All-weaker}
 use Rattle.std.proofs.lemmas.Map.{keys-set_value, length-set_value}
 use Rattle.std.proofs.lemmas.Map.Views.{IfSome-lookup_from_All}
@@ -16,19 +16,16 @@ use Rattle.kernel_ask.specs.declared.ask.Call.{Call}
 use Rattle.kernel_ask.specs.declared.ask.Call.TheVariants as call
 use Rattle.kernel_ask.specs.declared.ask.Phase.{Phase}
 use Rattle.kernel_ask.specs.declared.ask.Phase.TheVariants.{Begun, Unrun, Waited}
-use Rattle.kernel_objects.specs.declared.files.Node.{Node}
 use Rattle.kernel_objects.specs.declared.plan.BoxFault.{BoxFault}
-use Rattle.kernel_objects.specs.declared.plan.BoxPlan.{BoxPlan}
 use Rattle.kernel_objects.specs.declared.shell.Forked.{Forked}
 use Rattle.kernel_objects.specs.declared.shell.Shell.{Shell}
 use Rattle.kernel_objects.specs.Paths.{FileRows}
 use Rattle.kernel_objects.specs.Rows.{at_name, at_number, set_number}
 use Rattle.kernel_core.specs.declared.kernel.Kernel.{Kernel}
 use Rattle.kernel_core.specs.Forks.{fork_set, lives, lives_in, phase_set_in, with_phase}
-use Rattle.kernel_core.specs.Handles.{ended, ended_by}
-use Rattle.kernel_core.specs.Opening.{opened_files, opening, plan_files, plan_kernel}
-use Rattle.kernel_core.specs.Step.{Marks, Row, Step, call_turn}
-use Rattle.kernel_core.specs.Turn.{Answers}
+use Rattle.kernel_core.specs.Handles.{ended_by}
+use Rattle.kernel_core.specs.Opening.{opened_files, opening, plan_files}
+use Rattle.kernel_core.specs.Step.{Marks, Row, call_turn}
 use Rattle.kernel_laws.specs.Bounds.{HasBounds, IsWithin}
 use Rattle.kernel_laws.specs.Counts.{CountsHandles, EndedHoldNone, HoldsNoneEnded}
 use Rattle.kernel_laws.specs.Reached.{Reached, Opens, Asks, Ends}

@@ -1,5 +1,5 @@
 -- The count of nameless files is that of their open rows.
-use Rattle.std.proofs.Common.{◌≡◌, refl, sym, ap, ◌∙◌, subst, ℕ, ◌+◌, ◌-◌, ◌||◌, ◌&&◌, Bool, true, false, cond, List, [], ◌∷◌, ◌++◌, length, take, drop, Option, Some, None, Result, Ok, Err, arith, is_none, option_map, unwrap_or, nat_lt, nat_le, ◌==◌, if◌then◌else◌}
+use Rattle.std.proofs.Common.{◌≡◌, refl, sym, ap, ◌∙◌, ℕ, ◌+◌, ◌-◌, ◌||◌, Bool, true, false, cond, List, [], ◌∷◌, ◌++◌, length, take, drop, Option, Some, None, arith, option_map, unwrap_or, nat_lt, nat_le, ◌==◌, if◌then◌else◌}
 use Rattle.std.proofs.lemmas.Cmp.{nat_list_cmp_total}
 use Rattle.std.proofs.lemmas.Map.Entries.{sum_by-insert_entry, sum_by-remove_entry, sum_by-set_value}
 use Rattle.std.specs.BTreeMap.{is_at}
@@ -16,8 +16,8 @@ use Rattle.kernel_objects.specs.declared.opened.Stream.TheVariants.{Input, Outpu
 use Rattle.kernel_objects.specs.Rows.{at_name, set_name, put_name, drop_name}
 use Rattle.kernel_core.specs.declared.kernel.Stores.{Stores}
 use Rattle.kernel_core.specs.Forks.{all_retained}
-use Rattle.kernel_core.specs.Handles.{Reach, all_released, is_scratch, is_unheld, left_by, reach_of, released, retained_in, row_left, row_released, row_shared, shared, without_scratch}
-use Rattle.kernel_core.specs.Open.{is_append, row_for, row_of_two, stream_of}
+use Rattle.kernel_core.specs.Handles.{all_released, is_scratch, is_unheld, left_by, reach_of, released, retained_in, row_left, row_released, row_shared, shared, without_scratch}
+use Rattle.kernel_core.specs.Open.{row_for, stream_of}
 use Rattle.kernel_core.specs.Transfer.{RowTurn, Says, Holds, Written, Wrote, Unwritten, file_written, gives, read_file, read_stream, scratch_written, taken, write_bytes, write_file, write_node, write_stream}
 use Rattle.kernel_ask.specs.declared.ask.Answer.TheVariants as answer
 use Rattle.kernel_ask.specs.declared.ask.Mode.{Mode}
@@ -25,7 +25,7 @@ use Rattle.kernel_ask.specs.declared.ask.Refusal.TheVariants.{Broken}
 use Rattle.kernel_core.specs.Limits.{most_held}
 use Rattle.kernel_objects.specs.Paths.{node_at}
 use Rattle.kernel_laws.specs.Nameless.{nameless_in}
-use Rattle.kernel_laws.proofs.Balance.{Opens, all_released_named, released_named}
+use Rattle.kernel_laws.proofs.Balance.{Opens}
 use Rattle.kernel_laws.proofs.Names.{AreNamed}
 
 -- 1 for a nameless file
@@ -92,6 +92,7 @@ left_counted opens d held o there c = by (is_unheld (left_by held.side o)) refl
   where
     stream : (left_by held.side o).stream ≡ o.stream
     stream = left_same held.side o
+
     by : (b : Bool) → is_unheld (left_by held.side o) ≡ b → Counted (row_left (reach_of opens d) held.row (left_by held.side o)).opens (row_left (reach_of opens d) held.row (left_by held.side o)).stores
     by true h = rw h (
         let e = gone (left_by held.side o).stream d in

@@ -25,18 +25,18 @@ use Rattle.kernel_objects.specs.Rows.{at_name, at_number, put_name}
 use Rattle.kernel_core.specs.declared.kernel.Kernel.{Kernel}
 use Rattle.kernel_core.specs.declared.programs.Run.{Run}
 use Rattle.kernel_core.specs.Files.{is_full}
-use Rattle.kernel_core.specs.Forks.{fork_kept, fork_turn, has_begun, kept_from, lives, lives_in, phase_set_in, poll_fork, poll_turn, with_phase}
-use Rattle.kernel_core.specs.Handles.{close_held, close_turn, dup_held, dup_turn, ended, ended_by, is_reading, is_writing, lacks_handles}
+use Rattle.kernel_core.specs.Forks.{fork_kept, fork_turn, has_begun, kept_from, lives, lives_in, phase_set_in, poll_fork, poll_turn}
+use Rattle.kernel_core.specs.Handles.{close_held, close_turn, dup_held, dup_turn, ended_by, is_reading, is_writing, lacks_handles}
 use Rattle.kernel_core.specs.Limits.{most_number, most_shells}
 use Rattle.kernel_core.specs.Look.{list_refusal, list_turn, stat_node, stat_turn}
-use Rattle.kernel_core.specs.Open.{next_row, node_refusal, open_by, open_node, open_turn, pipe_by, pipe_turn, row_for, row_of_two, scratch_by, side_of, stream_of, too_many}
+use Rattle.kernel_core.specs.Open.{next_row, node_refusal, open_by, open_node, open_turn, pipe_turn, row_for, row_of_two, scratch_by, side_of, stream_of, too_many}
 use Rattle.kernel_core.specs.Opening.{opened_files, opening, plan_files}
 use Rattle.kernel_core.specs.Programs.{on_output, output_of, run_of, start_output, start_refusal, start_row, start_run, start_turn, wait_program_turn, wait_status}
-use Rattle.kernel_core.specs.Step.{Marks, Row, Step, call_turn}
-use Rattle.kernel_core.specs.Transfer.{RowTurn, Says, Holds, by_held, by_row, held_for, on_row, read_stream, read_turn, write_stream, write_turn}
+use Rattle.kernel_core.specs.Step.{Marks, Row, call_turn}
+use Rattle.kernel_core.specs.Transfer.{RowTurn, Says, Holds, by_held, by_row, held_for, on_row, read_turn, write_stream, write_turn}
 use Rattle.kernel_core.specs.Turn.{Turn, Answers, Waits, by_shell, unless}
 use Rattle.kernel_laws.specs.Nameless.{CountsNameless, nameless_in}
-use Rattle.kernel_laws.specs.Reached.{Reached, Opens, Asks, Ends}
+use Rattle.kernel_laws.specs.Reached.{Opens, Asks, Ends}
 use Rattle.kernel_laws.proofs.Laws.{reached_sound}
 use Rattle.kernel_laws.proofs.Moves.{row_is_new}
 use Rattle.kernel_laws.proofs.Nameless.{Counted, KeepsKind, all_released_counted, all_retained_nameless, kind, nameless_put, nameless_set, opened_kind, read_kind, released_counted, retained_nameless, write_kind}

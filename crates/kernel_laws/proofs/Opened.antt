@@ -1,14 +1,10 @@
 -- A box opens as such a kernel.
-use Rattle.std.proofs.Common.{◌≡◌, refl, sym, ap, ◌∙◌, subst, ℕ, ◌+◌, ◌<◌, ◌≤◌, ◌&&◌, Bool, true, false, cond, List, [], ◌∷◌, ◌++◌, length, Option, Some, None, arith, All, true≢false, length-append}
+use Rattle.std.proofs.Common.{◌≡◌, refl, sym, ◌∙◌, subst, ℕ, ◌+◌, ◌<◌, ◌≤◌, Bool, false, List, [], ◌∷◌, ◌++◌, None, arith, true≢false}
 use Rattle.std.proofs.lemmas.Cmp.{nat_cmp_total, nat_list_cmp_total}
 use Rattle.std.proofs.lemmas.List.{same_from_push}
 use Rattle.std.proofs.lemmas.List.Elements.{All-nil, All-cons}
-use Rattle.std.specs.Cmp.Lexicographic.{slice_cmp}
 use Rattle.std.specs.List.Sorted.{IsStrictlySortedBy}
-use Rattle.std.specs.Map.{keys_of, values_of}
-use Rattle.std.specs.Ordering.{nat_cmp}
 use Rattle.ksh_base.specs.Text.{same_numbers}
-use Rattle.kernel_objects.specs.declared.opened.Held.{Held}
 use Rattle.kernel_objects.specs.declared.opened.Opened.{Opened}
 use Rattle.kernel_objects.specs.declared.opened.Side.{Side}
 use Rattle.kernel_objects.specs.declared.opened.Side.TheVariants.{Reads, Writes}
@@ -20,7 +16,7 @@ use Rattle.kernel_core.specs.Handles.{handle, is_reading}
 use Rattle.kernel_core.specs.Open.{row_for}
 use Rattle.kernel_core.specs.Opening.{opening_rows, root_shell}
 use Rattle.kernel_laws.specs.Counts.{CountsAs, only_writes, standing}
-use Rattle.kernel_laws.proofs.Balance.{Balances, Opens}
+use Rattle.kernel_laws.proofs.Balance.{Balances}
 use Rattle.kernel_laws.proofs.Moves.{none_rise}
 use Rattle.kernel_laws.proofs.Names.{AreNamed, at_put_other, by_name}
 use Rattle.kernel_laws.proofs.Rows.{insert_sorted}

@@ -1,17 +1,14 @@
 -- What holds of each kernel that a box comes to.
-use Rattle.std.proofs.Common.{◌≡◌, refl, sym, ap, ◌∙◌, subst, ℕ, suc, ◌+◌, ◌*◌, ◌<◌, ◌≤◌, Bool, true, false, cond, List, [], ◌∷◌, ◌++◌, length, Option, Some, None, arith, All, IfSome}
-use Rattle.std.proofs.lemmas.Cmp.{nat_list_cmp_total}
+use Rattle.std.proofs.Common.{◌≡◌, sym, ap, ◌∙◌, subst, ℕ, ◌+◌, ◌<◌, ◌≤◌, Bool, false, List, [], ◌∷◌, ◌++◌, length, Option, Some, None, arith, All, IfSome}
 use Rattle.std.proofs.lemmas.List.{same_from_push}
 use Rattle.std.proofs.lemmas.List.Elements.{All-weaker}
 use Rattle.std.proofs.lemmas.Map.{keys-set_value, length-set_value}
-use Rattle.std.proofs.lemmas.Map.Views.{All-values-insert_entry, All-values-set_value, IfSome-lookup_from_All}
+use Rattle.std.proofs.lemmas.Map.Views.{All-values-set_value, IfSome-lookup_from_All}
 use Rattle.std.specs.BTreeMap.{is_at}
 use Rattle.std.specs.Cmp.Lexicographic.{slice_cmp}
 use Rattle.std.specs.List.Sorted.{IsStrictlySortedBy}
 use Rattle.std.specs.Map.{keys_of, values_of}
 use Rattle.std.specs.Ordering.{nat_cmp}
-use Rattle.ksh_base.specs.Text.{same_numbers}
-use Rattle.kernel_objects.specs.declared.opened.Held.{Held}
 use Rattle.kernel_objects.specs.declared.opened.Opened.{Opened}
 use Rattle.kernel_objects.specs.declared.opened.Side.{Side}
 use Rattle.kernel_objects.specs.declared.shell.Shell.{Shell}
@@ -21,7 +18,7 @@ use Rattle.kernel_core.specs.Handles.{is_reading}
 use Rattle.kernel_core.specs.Limits.{most_count}
 use Rattle.kernel_laws.specs.Counts.{CountsAs, only_writes, standing, standing_among}
 use Rattle.kernel_laws.proofs.Balance.{Balances, Opens, Total, balances_as, set_named}
-use Rattle.kernel_laws.proofs.Names.{AreNamed, at_put_other, at_put_same, at_set_other, at_set_same, by_name, none_after_set}
+use Rattle.kernel_laws.proofs.Names.{AreNamed, at_put_other, at_set_other, at_set_same, by_name, none_after_set}
 use Rattle.kernel_laws.proofs.Shells.{Shells, standing_few, standing_set}
 
 -- the number of a shell's next handle; 0 for no shell

@@ -1,12 +1,10 @@
 -- Each call leads from such a kernel to one.
-use Rattle.std.proofs.Common.{◌≡◌, refl, sym, ap, ◌∙◌, subst, ℕ, ◌+◌, ◌<◌, ◌≤◌, ◌||◌, ◌&&◌, Bool, true, false, List, [], ◌∷◌, ◌++◌, length, Option, Some, None, Result, Ok, Err, arith, is_none, true≢false, if◌then◌else◌, nat_le, nat_lt, ◌==◌, take, drop}
+use Rattle.std.proofs.Common.{◌≡◌, refl, sym, ap, ◌∙◌, ℕ, ◌+◌, ◌<◌, ◌||◌, ◌&&◌, Bool, true, false, List, [], ◌++◌, length, Option, Some, None, Result, Ok, Err, arith, is_none, true≢false, if◌then◌else◌, nat_le, nat_lt, ◌==◌, take, drop}
 use Rattle.std.proofs.lemmas.Bool.Decides.{nat_tests}
-use Rattle.kernel_ask.specs.declared.ask.Answer.{Answer}
 use Rattle.kernel_ask.specs.declared.ask.Answer.TheVariants as answer
 use Rattle.kernel_ask.specs.declared.ask.Handle.{Handle}
 use Rattle.kernel_ask.specs.declared.ask.Mode.{Mode}
 use Rattle.kernel_ask.specs.declared.ask.Mode.TheVariants as mode
-use Rattle.kernel_ask.specs.declared.ask.Phase.{Phase}
 use Rattle.kernel_ask.specs.declared.ask.Program.{Program}
 use Rattle.kernel_ask.specs.declared.ask.Refusal.{Refusal}
 use Rattle.kernel_ask.specs.declared.ask.Refusal.TheVariants.{BadHandle, Broken}
@@ -14,7 +12,6 @@ use Rattle.kernel_objects.specs.declared.files.Node.{Node}
 use Rattle.kernel_objects.specs.declared.files.Node.TheVariants as node
 use Rattle.kernel_objects.specs.declared.opened.Held.{Held}
 use Rattle.kernel_objects.specs.declared.opened.Opened.{Opened}
-use Rattle.kernel_objects.specs.declared.opened.Side.{Side}
 use Rattle.kernel_objects.specs.declared.opened.Stream.{Stream}
 use Rattle.kernel_objects.specs.declared.opened.Stream.TheVariants.{Input, Output, Errors, Null, File, Pipe, Scratch}
 use Rattle.kernel_objects.specs.declared.shell.Forked.{Forked}
@@ -29,10 +26,10 @@ use Rattle.kernel_core.specs.Files.{is_full}
 use Rattle.kernel_core.specs.Forks.{has_begun, lives, lives_in, poll_fork, poll_turn}
 use Rattle.kernel_core.specs.Handles.{close_held, close_turn, dup_held, dup_turn, is_reading, is_writing, lacks_handles}
 use Rattle.kernel_core.specs.Limits.{most_held, most_number}
-use Rattle.kernel_core.specs.Look.{facts, list_refusal, list_turn, names_in, stat_node, stat_turn}
-use Rattle.kernel_core.specs.Open.{is_append, node_refusal, open_by, open_node, open_turn, opened_at, pipe_by, pipe_turn, scratch_by, side_of, stream_of, too_many}
+use Rattle.kernel_core.specs.Look.{list_refusal, list_turn, stat_node, stat_turn}
+use Rattle.kernel_core.specs.Open.{node_refusal, open_by, open_node, open_turn, pipe_by, pipe_turn, scratch_by, side_of, stream_of, too_many}
 use Rattle.kernel_core.specs.Programs.{are_given, on_output, output_of, run_of, start_output, start_refusal, start_row, start_run, start_turn, wait_program_turn, wait_status}
-use Rattle.kernel_core.specs.Transfer.{RowTurn, Says, Holds, Written, Wrote, Unwritten, by_held, by_row, file_written, held_for, on_row, read_file, read_pipe, read_stream, read_turn, gives, taken, scratch_written, write_bytes, write_file, write_node, write_pipe, write_stream, write_turn}
+use Rattle.kernel_core.specs.Transfer.{RowTurn, Says, Holds, Written, Wrote, Unwritten, by_held, by_row, file_written, held_for, on_row, read_file, read_stream, read_turn, gives, taken, scratch_written, write_bytes, write_file, write_node, write_stream, write_turn}
 use Rattle.kernel_core.specs.Turn.{Turn, Answers, Waits, by_shell, unless}
 use Rattle.kernel_laws.proofs.Moves.{close_sound, dup_sound, entered_one, entered_two, room_for}
 use Rattle.kernel_laws.proofs.Sound.{Sound, SoundShell, same_handles, shell_sound, stream_changed}

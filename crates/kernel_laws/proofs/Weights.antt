@@ -1,5 +1,5 @@
 -- What a handle weighs in the counts of an open row.
-use Rattle.std.proofs.Common.{◌≡◌, refl, sym, ap, ◌∙◌, subst, subst₂, ℕ, ◌+◌, ◌-◌, ◌<◌, ◌≤◌, min, Bool, true, false, cond, ◌&&◌, not, List, [], ◌∷◌, Option, Some, None, arith, zero, suc, ◌==◌}
+use Rattle.std.proofs.Common.{◌≡◌, refl, ap, subst₂, ℕ, ◌+◌, ◌<◌, ◌≤◌, Bool, true, false, cond, ◌&&◌, List, Option, Some, None, arith, ◌==◌}
 use Rattle.std.proofs.lemmas.Bool.Decides.{nat_tests}
 use Rattle.ksh_base.specs.Text.{same_numbers}
 use Rattle.kernel_objects.specs.declared.opened.Held.{Held}

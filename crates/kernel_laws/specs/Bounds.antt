@@ -1,5 +1,5 @@
 -- How much the shells of a box come to hold.
-use Rattle.std.specs.Prelude.{◌≡◌, ℕ, ◌+◌, ◌≤◌, List, length, Option, None, IfSome}
+use Rattle.std.specs.Prelude.{◌≡◌, ℕ, ◌+◌, ◌≤◌, List, length, None, IfSome}
 use Rattle.kernel_objects.specs.declared.shell.Shell.{Shell}
 use Rattle.kernel_objects.specs.Rows.{at_name, at_number}
 use Rattle.kernel_core.specs.declared.kernel.Kernel.{Kernel}
