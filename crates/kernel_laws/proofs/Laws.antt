@@ -17,6 +17,7 @@ use Rattle.kernel_ask.specs.declared.ask.Call.TheVariants as call
 use Rattle.kernel_ask.specs.declared.ask.Phase.{Phase}
 use Rattle.kernel_ask.specs.declared.ask.Phase.TheVariants.{Begun, Unrun, Waited}
 use Rattle.kernel_objects.specs.declared.plan.BoxFault.{BoxFault}
+use Rattle.kernel_objects.specs.declared.plan.BoxPlan.{BoxPlan}
 use Rattle.kernel_objects.specs.declared.shell.Forked.{Forked}
 use Rattle.kernel_objects.specs.declared.shell.Shell.{Shell}
 use Rattle.kernel_objects.specs.Paths.{FileRows}
@@ -105,13 +106,13 @@ module _ (k : Kernel) (sound : Sound k.shells k.opens) (who : List ℕ) (live : 
   ended_by_sound None there = sound
   ended_by_sound (Some s) there = end_sound k.shells k.opens sound who s there (live_there s there) k.stores
 
-pub reached_sound : {F : Type 0} (k : Kernel) → Reached F k → IsSound k
-reached_sound k (Opens plan same e) = opened_sound plan.input (plan_files plan.entries) same e
-reached_sound now (Asks k who ask a new before step) = row_sound k (reached_sound k before) who step.live ask a new step.row
-reached_sound now (Ends k who new before live e) = subst IsSound (sym e) (ended_by_sound k (reached_sound k before) who live (at_name who k.shells) refl)
+pub reached_sound : {F : Type 0} (plan : BoxPlan) (k : Kernel) → Reached F plan k → IsSound k
+reached_sound plan k (Opens same e) = opened_sound plan.input (plan_files plan.entries) same e
+reached_sound plan now (Asks k who ask a new before step) = row_sound k (reached_sound plan k before) who step.live ask a new step.row
+reached_sound plan now (Ends k who new before live e) = subst IsSound (sym e) (ended_by_sound k (reached_sound plan k before) who live (at_name who k.shells) refl)
 
 pub counts : (F : Type 0) → CountsHandles F
-counts F k row reached = let s = reached_sound k reached in s.balances row
+counts F plan k row reached = let s = reached_sound plan k reached in s.balances row
 
 within : (s : Shell) → SoundShell s → IsWithin s
 within s own = record {
@@ -126,11 +127,11 @@ within_if None h = tt
 within_if (Some s) h = within s h
 
 pub bounds : (F : Type 0) → HasBounds F
-bounds F k reached = let s = reached_sound k reached in (s.few, λ who. within_if (at_name who k.shells) (IfSome-lookup_from_All SoundShell (is_at (slice_cmp nat_cmp who)) k.shells s.each))
+bounds F plan k reached = let s = reached_sound plan k reached in (s.few, λ who. within_if (at_name who k.shells) (IfSome-lookup_from_All SoundShell (is_at (slice_cmp nat_cmp who)) k.shells s.each))
 
 holds_none : (x : Option Shell) → IfSome x SoundShell → HoldsNoneEnded x
 holds_none None h = tt
 holds_none (Some s) h = h.ended
 
 pub ended_hold_none : (F : Type 0) → EndedHoldNone F
-ended_hold_none F k who reached = let s = reached_sound k reached in holds_none (at_name who k.shells) (IfSome-lookup_from_All SoundShell (is_at (slice_cmp nat_cmp who)) k.shells s.each)
+ended_hold_none F plan k who reached = let s = reached_sound plan k reached in holds_none (at_name who k.shells) (IfSome-lookup_from_All SoundShell (is_at (slice_cmp nat_cmp who)) k.shells s.each)

@@ -10,5 +10,7 @@ pub mod Opened
 pub mod Rows
 pub mod Shells
 pub mod Sound
+pub mod Stored
+pub mod StoredTurns
 pub mod Turns
 pub mod Weights

@@ -60,7 +60,7 @@ shared_same Reads o = refl
 shared_same Writes o = refl
 shared_same Both o = refl
 
-left_same : (side : Side) (o : Opened) → (left_by side o).stream ≡ o.stream
+pub left_same : (side : Side) (o : Opened) → (left_by side o).stream ≡ o.stream
 left_same Reads o = refl
 left_same Writes o = refl
 left_same Both o = refl
@@ -165,7 +165,7 @@ write_kind (Scratch bytes read_at write_at) piece o d e = scratch_kind read_at o
 
 -- ---- what a new row is
 
-for_stream : (side : Side) (s : Stream) → (row_for side s).stream ≡ s
+pub for_stream : (side : Side) (s : Stream) → (row_for side s).stream ≡ s
 for_stream Reads s = refl
 for_stream Writes s = refl
 for_stream Both s = refl

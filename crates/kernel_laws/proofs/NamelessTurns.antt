@@ -212,6 +212,6 @@ opened_counts input (Ok files) k e = let same : opening files input ≡ k = cc i
 opened_counts input (Err fault) k e = absurd cc
 
 pub nameless : (F : Type 0) → CountsNameless F
-nameless F k (Opens plan same e) = opened_counts plan.input (plan_files plan.entries) same e
-nameless F now (Asks k who ask a new before step) = row_keeps k (nameless F k before) (reached_sound k before) who step.live ask a new step.row
-nameless F now (Ends k who new before live e) = subst IsCounting (sym e) (ended_by_keeps k (nameless F k before) who (at_name who k.shells))
+nameless F plan k (Opens same e) = opened_counts plan.input (plan_files plan.entries) same e
+nameless F plan now (Asks k who ask a new before step) = row_keeps k (nameless F plan k before) (reached_sound plan k before) who step.live ask a new step.row
+nameless F plan now (Ends k who new before live e) = subst IsCounting (sym e) (ended_by_keeps k (nameless F plan k before) who (at_name who k.shells))

@@ -1,5 +1,6 @@
 -- How much the shells of a box come to hold.
 use Rattle.std.specs.Prelude.{◌≡◌, ℕ, ◌+◌, ◌≤◌, List, length, None, IfSome}
+use Rattle.kernel_objects.specs.declared.plan.BoxPlan.{BoxPlan}
 use Rattle.kernel_objects.specs.declared.shell.Shell.{Shell}
 use Rattle.kernel_objects.specs.Rows.{at_name, at_number}
 use Rattle.kernel_core.specs.declared.kernel.Kernel.{Kernel}
@@ -15,4 +16,4 @@ pub record IsWithin (s : Shell) : Type 0 where
 
 -- of each kernel that a box comes to
 abbrev pub HasBounds : Type 0 → Type 0
-HasBounds F = (k : Kernel) → Reached F k → (length k.shells ≤ most_shells) × ((who : List ℕ) → IfSome (at_name who k.shells) IsWithin)
+HasBounds F = (plan : BoxPlan) (k : Kernel) → Reached F plan k → (length k.shells ≤ most_shells) × ((who : List ℕ) → IfSome (at_name who k.shells) IsWithin)

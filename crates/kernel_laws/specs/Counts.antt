@@ -5,6 +5,7 @@ use Rattle.ksh_base.specs.Text.{same_numbers}
 use Rattle.kernel_objects.specs.declared.opened.Held.{Held}
 use Rattle.kernel_objects.specs.declared.opened.Opened.{Opened}
 use Rattle.kernel_objects.specs.declared.opened.Side.{Side}
+use Rattle.kernel_objects.specs.declared.plan.BoxPlan.{BoxPlan}
 use Rattle.kernel_objects.specs.declared.shell.Shell.{Shell}
 use Rattle.kernel_objects.specs.Rows.{at_name}
 use Rattle.kernel_core.specs.declared.kernel.Kernel.{Kernel}
@@ -41,7 +42,7 @@ HoldsNoneEnded (Some s) = s.live ≡ false → s.handles ≡ []
 
 -- of each kernel that a box comes to
 abbrev pub CountsHandles : Type 0 → Type 0
-CountsHandles F = (k : Kernel) (row : List ℕ) → Reached F k → IsCounted k row
+CountsHandles F = (plan : BoxPlan) (k : Kernel) (row : List ℕ) → Reached F plan k → IsCounted k row
 
 abbrev pub EndedHoldNone : Type 0 → Type 0
-EndedHoldNone F = (k : Kernel) (who : List ℕ) → Reached F k → HoldsNoneEnded (at_name who k.shells)
+EndedHoldNone F = (plan : BoxPlan) (k : Kernel) (who : List ℕ) → Reached F plan k → HoldsNoneEnded (at_name who k.shells)

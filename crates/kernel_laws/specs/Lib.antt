@@ -3,3 +3,4 @@ pub mod Counts
 pub mod LastNumbers
 pub mod Nameless
 pub mod Reached
+pub mod Stored

@@ -5,6 +5,7 @@ ghost use Rattle.kernel_laws.specs.Bounds.{HasBounds};
 ghost use Rattle.kernel_laws.specs.Counts.{CountsHandles, EndedHoldNone};
 ghost use Rattle.kernel_laws.specs.LastNumbers.{GivesLastNumber, NeedsTwoNumbers, StartsNoneAfter};
 ghost use Rattle.kernel_laws.specs.Nameless.{CountsNameless};
+ghost use Rattle.kernel_laws.specs.Stored.{HasFewFiles, StoresFew};
 
 /// Each open row counts the handles that stand for it, those that read (or do both) and those that only write, over
 /// all shells; it is open as long as there is one, and no handle stands for a row that isn't open. A shell that has
@@ -19,6 +20,14 @@ pub fn handles_are_counted<F>()
 #[tactic(auto, using(crate::proofs::Laws::bounds))]
 pub fn shells_are_bounded<F>()
     ensures { HasBounds F }
+{}
+
+/// A file has at most 16,777,216 bytes, a nameless one too, and a pipe holds at most 65,536. Where the plan has at most 65,536
+/// entries the box has at most 65,536 files: what has a path, and nameless files.
+#[tactic(auto, using(crate::proofs::StoredTurns::stores_few, crate::proofs::StoredTurns::few_files))]
+pub fn stores_are_bounded<F>()
+    ensures bytes { StoresFew F }
+    ensures files { HasFewFiles F }
 {}
 
 /// A shell is given the number 4,294,967,295 for a handle, and then no handle more: Dup is refused as TooMany. Pipe and
