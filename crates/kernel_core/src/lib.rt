@@ -9,8 +9,6 @@ mod look;
 mod open;
 mod opening;
 mod programs;
-#[cfg(test)]
-mod tests;
 mod transfer;
 
 pub use kernel::{Kernel, Opens, Shells, Stores};

@@ -1,0 +1,16 @@
+pub mod Balance
+pub mod Forking
+pub mod LastNumbers
+pub mod Laws
+pub mod Moves
+pub mod Nameless
+pub mod NamelessTurns
+pub mod Names
+pub mod Opened
+pub mod Rows
+pub mod Shells
+pub mod Sound
+pub mod Stored
+pub mod StoredTurns
+pub mod Turns
+pub mod Weights

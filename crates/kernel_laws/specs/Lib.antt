@@ -1,0 +1,6 @@
+pub mod Bounds
+pub mod Counts
+pub mod LastNumbers
+pub mod Nameless
+pub mod Reached
+pub mod Stored
