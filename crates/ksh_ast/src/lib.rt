@@ -1,0 +1,18 @@
+//! The tree of a script: plain data, which contracts compare by value.
+//!
+//! A word is the list of its pieces, and a list of commands is shared: each is, in a contract, the list of what it holds.
+#![tactic(auto)]
+
+mod digit;
+mod kinds;
+mod redirect;
+mod tree;
+
+pub use digit::Digit;
+pub use kinds::{BinaryTest, Replaced, SubstKind, UnaryTest};
+pub use redirect::{Redirect, RedirectForm, RedirectTo};
+pub use tree::{
+    Argument, Arith, Arm, Assign, AssignValue, CaseItem, Command, Condition, FunctionDef, Item,
+    Link, List, Member, Pair, Param, ParamForm, ParamOf, Piece, Script, Term, Test, TreePart,
+    TreePath, Word,
+};
