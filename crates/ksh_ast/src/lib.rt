@@ -7,6 +7,7 @@ mod digit;
 mod kinds;
 mod redirect;
 mod tree;
+mod word_copies;
 
 pub use digit::Digit;
 pub use kinds::{BinaryTest, Replaced, SubstKind, UnaryTest};
@@ -16,3 +17,4 @@ pub use tree::{
     Link, List, Member, Pair, Param, ParamForm, ParamOf, Piece, Script, Term, Test, TreePart,
     TreePath, Word,
 };
+pub use word_copies::{copy_arith, copy_param, copy_path, copy_piece, copy_word};
