@@ -1,7 +1,9 @@
+ghost use Rattle.std.specs.Prelude.{◌≡◌, IfOk};
+
 use crate::kinds::{BinaryTest, Replaced, SubstKind, UnaryTest};
 use crate::redirect::Redirect;
 use arith_tree::ArithExpr;
-use ksh_base::{Boxed, Items, Name, Shared, Text};
+use ksh_base::{Boxed, Items, Memory, Name, Shared, Text};
 
 /// A list of commands. A copy shares it.
 pub type List = Shared<Items<Item>>;
@@ -10,6 +12,16 @@ pub type List = Shared<Items<Item>>;
 #[derive(Drop)]
 pub struct Script {
     pub list: List,
+}
+
+impl Script {
+    /// The same script: its list is shared.
+    pub fn copy(&self) -> Result<Script, Memory>
+        ensures { IfOk result (λ c. c ≡ self.now) }
+    {
+        let list = self.list.copy()?;
+        Ok(Script { list })
+    }
 }
 
 /// A word: its text is that of its pieces, one after another.
