@@ -1,0 +1,64 @@
+ghost use Rattle.std.specs.Prelude.{◌≡◌, ◌<◌, ◌+◌, IfSome, IfNone, false};
+ghost use Rattle.std.specs.Char.{is_ascii_digit};
+
+use std::marker::Model;
+
+/// A decimal digit, which contracts see as its number.
+#[derive(Debug, Drop)]
+pub struct Digit {
+    number: u8,
+}
+
+impl Model for Digit {
+    ghost use Rattle.std.specs.Prelude.{ℕ, ◌<◌};
+
+    ghost Value = { ℕ };
+
+    ghost view = { λ d. d.number };
+
+    ghost invariant = { λ d. d.number < 10 };
+}
+
+impl Digit {
+    /// The digit that the byte writes; nothing exactly where it writes none.
+    pub fn read(byte: u8) -> Option<Digit>
+        ensures some { IfSome result (λ d. 48 + d ≡ byte) }
+        ensures none { IfNone result (is_ascii_digit byte ≡ false) }
+    {
+        if !byte.is_ascii_digit() {
+            return None;
+        }
+        Some(Digit {
+            number: byte - b'0',
+        })
+    }
+
+    /// Its number, from 0 to 9.
+    pub fn number(&self) -> u8
+        ensures value { result ≡ self.now }
+        ensures small { result < 10 }
+    {
+        self.number
+    }
+
+    pub fn copy(&self) -> Digit
+        ensures { result ≡ self.now }
+    {
+        Digit {
+            number: self.number,
+        }
+    }
+}
+
+#[cfg(test)]
+mod tests {
+    use super::*;
+    use std::test::Fail;
+
+    #[test]
+    fn digits_are_read_or_refused(rt: HostRuntime) -> Result<(), Fail> {
+        assert!(rt; Digit::read(b'7').is_some_and(|digit| digit.copy().number() == 7));
+        assert!(rt; Digit::read(b'/').is_none() && Digit::read(b':').is_none());
+        Ok(())
+    }
+}
