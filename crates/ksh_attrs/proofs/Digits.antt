@@ -1,9 +1,10 @@
 -- The digits of a number, of which the last is taken away.
-use Rattle.std.proofs.Common.{◌≡◌, ℕ, zero, suc, ◌/◌, ◌%◌, ◌<◌, ◌≤◌, Bool, true, false, nat_lt, List, [], ◌∷◌, ◌++◌, map, refl, ap, sym, ◌∙◌, arith, if◌then◌else◌}
+use Rattle.std.proofs.Common.{◌≡◌, ℕ, zero, suc, ◌+◌, ◌*◌, ◌&&◌, ◌/◌, ◌%◌, ◌<◌, ◌≤◌, Bool, true, false, nat_lt, List, [], ◌∷◌, ◌++◌, map, refl, ap, sym, ◌∙◌, arith, if◌then◌else◌}
 use Rattle.std.proofs.lemmas.Bool.Decides.{nat_tests}
 use Rattle.std.proofs.lemmas.List.{append_assoc}
-use Rattle.std.proofs.Math.Nat.{div-lt_self}
-use Rattle.ksh_attrs.specs.Numbers.{digit, low_digits}
+use Rattle.std.proofs.Math.Nat.{div-lt_self, mod-add-div, mod-lt}
+use Rattle.std.specs.List.{list_all}
+use Rattle.ksh_attrs.specs.Numbers.{digit, low_digits, worth, AreDigits}
 
 small : (n base : ℕ) → n < base → nat_lt n base ≡ true
 small n base l = grind (arith, nat_tests)
@@ -63,3 +64,39 @@ pub digits_last : (whole done more : List ℕ) (base n d : ℕ) → n < base
     → more ≡ whole
 digits_last whole done more base n d l w e m =
     m ∙ ap (λ c. done ++ c ∷ []) e ∙ sym (w ∙ ap (λ ds. done ++ map digit ds) (low_small n base n l))
+
+worth_one : (base n : ℕ) → n + base * 0 ≡ n
+worth_one base n = omega arith
+
+small_one : (base n : ℕ) → n < base → list_all (λ d. nat_lt d base) (n ∷ []) ≡ true
+small_one base n l = ap (λ b. b && true) (small n base l)
+
+both : (a b : Bool) → a ≡ true → b ≡ true → (a && b) ≡ true
+both a b h k = grind arith
+
+one_digit : (base n : ℕ) (ds : List ℕ) → n < base → ds ≡ n ∷ [] → AreDigits base n ds
+one_digit base n ds l e = record {
+  small = ap (λ xs. list_all (λ d. nat_lt d base) xs) e ∙ small_one base n l;
+  make = ap (worth base) e ∙ worth_one base n;
+}
+
+more_digits : (base n : ℕ) (ds rest : List ℕ) → 2 ≤ base → ds ≡ n % base ∷ rest → AreDigits base (n / base) rest → AreDigits base n ds
+more_digits base n ds rest b e law = record {
+  small = ap (λ xs. list_all (λ d. nat_lt d base) xs) e ∙ both (nat_lt (n % base) base) (list_all (λ d. nat_lt d base) rest) (small (n % base) base (mod-lt n (omega (arith, b)))) law.small;
+  make = ap (worth base) e ∙ ap (λ m. n % base + base * m) law.make ∙ mod-add-div n base;
+}
+
+-- the digits of a number make it
+low_law : (f base n : ℕ) → 2 ≤ base → n ≤ f → AreDigits base n (low_digits f base n)
+low_law zero base n b l = one_digit base n _ (omega (arith, b, l)) refl
+low_law (suc f) base n b l = by_test (nat_lt n base) refl (λ k h. low_law f base k b h)
+  where
+    by_test : (t : Bool) → nat_lt n base ≡ t → ((k : ℕ) → k ≤ f → AreDigits base k (low_digits f base k)) → AreDigits base n (low_digits (suc f) base n)
+    by_test true e law = one_digit base n _ (below n base e) (low_small (suc f) base n (below n base e))
+    by_test false e law =
+        let least : base ≤ n = at_least n base e in
+        let less : n / base < n = div-lt_self (omega (arith, least, b)) b in
+        more_digits base n _ _ b (low_large f base n least) (law (n / base) (omega (arith, less, l)))
+
+pub digits_law : (base n : ℕ) → 2 ≤ base → AreDigits base n (low_digits n base n)
+digits_law base n b = low_law n base n b (omega arith)

@@ -1,5 +1,5 @@
 -- Numbers as texts.
-use Rattle.std.specs.Prelude.{ℕ, zero, suc, ◌+◌, ◌-◌, ◌/◌, ◌%◌, ◌^◌, ◌==◌, ◌&&◌, Bool, true, false, nat_le, nat_lt, not, List, [], ◌∷◌, ◌++◌, map, Option, Some, None, if◌then◌else◌, ℤ, pos, neg_ℤ, decimal, unsigned_abs, reverse}
+use Rattle.std.specs.Prelude.{◌≡◌, ℕ, zero, suc, ◌+◌, ◌*◌, ◌-◌, ◌/◌, ◌%◌, ◌^◌, ◌==◌, ◌&&◌, Bool, true, false, nat_le, nat_lt, not, List, [], ◌∷◌, ◌++◌, map, Option, Some, None, if◌then◌else◌, ℤ, pos, neg_ℤ, decimal, unsigned_abs, reverse}
 use Rattle.std.specs.Char.{is_ascii_digit}
 use Rattle.std.specs.Fmt.{signed_decimal}
 use Rattle.std.specs.Int.{is_negative}
@@ -43,6 +43,16 @@ digit d = if nat_lt d 10 then 48 + d else 87 + d
 abbrev pub low_digits : ℕ → ℕ → ℕ → List ℕ
 low_digits zero base n = n ∷ []
 low_digits (suc bound) base n = if nat_lt n base then n ∷ [] else n % base ∷ low_digits bound base (n / base)
+
+-- the number that the values of digits make, the last first
+abbrev pub worth : ℕ → List ℕ → ℕ
+worth base [] = 0
+worth base (d ∷ ds) = d + base * worth base ds
+
+-- digits of the base, which make the number
+pub record AreDigits (base n : ℕ) (ds : List ℕ) : Type 0 where
+  pub small : list_all (λ d. nat_lt d base) ds ≡ true
+  pub make : worth base ds ≡ n
 
 abbrev pub numeral : ℕ → ℕ → List ℕ
 numeral base n = reverse (map digit (low_digits n base n))

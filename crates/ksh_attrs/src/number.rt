@@ -1,7 +1,7 @@
 //! Numbers as texts.
 ghost use Rattle.std.specs.Prelude.{◌≡◌, ◌≤◌, ◌<◌, ◌^◌, false, true, IfOk, MatchOption, map};
 ghost use Rattle.ksh_base.specs.Words.{written};
-ghost use Rattle.ksh_attrs.specs.Numbers.{number_of, is_within, digit, low_digits, numeral, is_base, based, number_text};
+ghost use Rattle.ksh_attrs.specs.Numbers.{number_of, is_within, digit, low_digits, AreDigits, numeral, is_base, based, number_text};
 
 use itoa::Buffer;
 use ksh_base::{Memory, Text};
@@ -79,7 +79,8 @@ fn low_digits(alloc: Global, base: u8, number: u64) -> Result<Vec<u8>, Memory>
 /// The digits of a number.
 fn numeral(alloc: Global, base: u8, number: u64) -> Result<Vec<u8>, Memory>
     requires { (2 ≤ base) × (base ≤ 36) }
-    ensures { IfOk result (λ v. v.items ≡ numeral base number) }
+    ensures is { IfOk result (λ v. v.items ≡ numeral base number) }
+    ensures law { AreDigits base number (low_digits number base number) }
 {
     let mut digits = low_digits(alloc, base, number)?;
     digits.reverse();
