@@ -1,5 +1,5 @@
 -- What a part of a pattern is, one level at a time.
-use Rattle.std.proofs.Common.{◌≡◌, ℕ, map, Bool, true, false, ◌||◌, ◌&&◌, not, List, [], ◌∷◌, refl, ap, sym, ◌∙◌}
+use Rattle.std.proofs.Common.{◌≡◌, ℕ, map, Bool, true, ◌||◌, not, List, [], ◌∷◌, refl, ap, sym, ◌∙◌}
 use Rattle.std.proofs.Math.Bool.{and-true}
 use Rattle.std.proofs.lemmas.Simd.{map-map}
 use Rattle.std.specs.Global.{Vec}
@@ -7,13 +7,13 @@ use Rattle.std.specs.List.{list_any}
 use Rattle.ksh_pattern.specs.declared.byte_test.ByteTest.{ByteTest}
 use Rattle.ksh_pattern.specs.declared.part.Kind.{Kind}
 use Rattle.ksh_pattern.specs.declared.part.Kind.TheVariants as kind
-use Rattle.ksh_pattern.specs.declared.part.Part.{Part, Part-F, fold-roll-Part, roll-Part}
+use Rattle.ksh_pattern.specs.declared.part.Part.{Part, Part-F, fold-roll-Part}
 use Rattle.ksh_pattern.specs.declared.part.Part.TheVariants as part
-use Rattle.ksh_pattern.specs.declared.cell.Cell.{Cell, Cell-F, fold-roll-Cell, roll-Cell}
+use Rattle.ksh_pattern.specs.declared.cell.Cell.{Cell, Cell-F, fold-roll-Cell}
 use Rattle.ksh_pattern.specs.declared.cell.Cell.TheVariants as cell
 use Rattle.ksh_pattern.specs.declared.cell.Cell.TheShapes as shape
-use Rattle.ksh_pattern.specs.Match.{Texts, is_empty_text, one_byte, some_cut, joined, either, any_number, repeated, part_step, part_matches, matches, one_matches, has_empty}
-use Rattle.ksh_pattern.specs.Cells.{Meaning, cell_step, meaning, whole, rest, whole_all, rest_all, whole_some, rest_some, rest_repeated, wholes, rests, some_rest, looped}
+use Rattle.ksh_pattern.specs.Match.{Texts, one_byte, joined, either, repeated, part_step, part_matches, one_matches, has_empty}
+use Rattle.ksh_pattern.specs.Cells.{Meaning, cell_step, meaning, whole, rest, whole_some, rest_some, rest_repeated, wholes, rests, some_rest, looped}
 
 pub group_matches : (k : Kind) (alternatives : List (List Part)) (w : List ℕ) → part_matches (part.Group k alternatives) w ≡ repeated k (one_matches alternatives) w
 group_matches k alternatives w =

@@ -5,3 +5,4 @@ pub mod Shifts
 pub mod Texts
 pub mod Tokens
 pub mod Buildings
+pub mod Doubles

@@ -1,16 +1,15 @@
 -- Cells after a further byte.
-use Rattle.std.proofs.Common.{◌≡◌, ℕ, ◌+◌, ◌<◌, Bool, true, false, ◌||◌, ◌&&◌, not, List, [], ◌∷◌, ◌++◌, length, map, take, drop, set, get_or, refl, ap, sym, ◌∙◌, arith}
-use Rattle.std.proofs.Math.Bool.{and-true, or-false}
-use Rattle.std.proofs.lemmas.List.{get_or_default, take_more_set, drop-set-lt, drop-drop, length-set, map-append}
+use Rattle.std.proofs.Common.{◌≡◌, ℕ, ◌+◌, ◌<◌, Bool, true, false, ◌||◌, ◌&&◌, not, List, [], ◌∷◌, ◌++◌, length, take, drop, set, get_or, refl, ap, sym, ◌∙◌, arith}
+use Rattle.std.proofs.Math.Bool.{or-false}
+use Rattle.std.proofs.lemmas.List.{get_or_default, take_more_set, drop-set-lt, drop-drop}
 use Rattle.std.proofs.lemmas.List.Folds.{list_any-append}
 use Rattle.std.specs.Global.{Vec}
-use Rattle.std.specs.List.{list_any}
 use Rattle.ksh_pattern.specs.declared.part.Part.{Part}
 use Rattle.ksh_pattern.specs.declared.part.Kind.{Kind}
 use Rattle.ksh_pattern.specs.declared.part.Kind.TheVariants as kind
 use Rattle.ksh_pattern.specs.declared.cell.Cell.{Cell}
 use Rattle.ksh_pattern.specs.declared.cell.Cell.TheVariants as cell
-use Rattle.ksh_pattern.specs.Match.{Texts, some_cut, any_number, repeated, one_matches, goes_on}
+use Rattle.ksh_pattern.specs.Match.{Texts, some_cut, any_number, one_matches, goes_on}
 use Rattle.ksh_pattern.specs.Cells.{whole, rest, whole_all, rest_all, whole_some, rest_some, rest_copies, rest_repeated, looped}
 use Rattle.ksh_pattern.proofs.Cuts.{cut_or, cut_none, cut_same, number_of_one}
 use Rattle.ksh_pattern.proofs.Levels.{cell_whole, cell_rest, not_whole, not_rest}

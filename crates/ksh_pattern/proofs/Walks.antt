@@ -1,17 +1,16 @@
 -- A list of parts, or of alternatives, that is walked from the left.
-use Rattle.std.proofs.Common.{◌≡◌, ℕ, ◌+◌, ◌<◌, Bool, true, false, ◌||◌, ◌&&◌, not, List, [], ◌∷◌, ◌++◌, length, map, take, drop, set, get_or, refl, ap, sym, ◌∙◌, arith}
-use Rattle.std.proofs.lemmas.List.{get_or-drop, map-append, take_more, take_more_set, drop-set, drop_more}
+use Rattle.std.proofs.Common.{◌≡◌, ℕ, ◌+◌, ◌<◌, Bool, true, false, ◌||◌, ◌&&◌, not, List, [], ◌∷◌, ◌++◌, length, map, take, drop, get_or, refl, ap, sym, ◌∙◌, arith}
+use Rattle.std.proofs.lemmas.List.{get_or-drop, map-append, take_more}
 use Rattle.std.specs.Global.{Vec}
-use Rattle.std.specs.List.{list_any}
 use Rattle.ksh_pattern.specs.declared.part.Part.{Part}
 use Rattle.ksh_pattern.specs.declared.part.Kind.{Kind}
 use Rattle.ksh_pattern.specs.declared.part.Kind.TheVariants as kind
 use Rattle.ksh_pattern.specs.declared.cell.Cell.{Cell}
 use Rattle.ksh_pattern.specs.declared.cell.Cell.TheVariants as cell
-use Rattle.ksh_pattern.specs.Match.{Texts, is_empty_text, some_cut, joined, either, any_number, repeated, part_matches, matches, one_matches, goes_on, is_not, may_vanish}
-use Rattle.ksh_pattern.specs.Cells.{Meaning, wholes, rests, meaning, whole, rest, whole_all, rest_all, whole_some, rest_some, rest_copies, rest_repeated, looped}
-use Rattle.std.proofs.Math.Bool.{and-true, or-false}
-use Rattle.ksh_pattern.proofs.Cuts.{cut_or, cut_and, cut_same, wholes_more, rests_more, joined_more, either_more, number_of_one}
+use Rattle.ksh_pattern.specs.Match.{Texts, some_cut, joined, either, any_number, repeated, part_matches, matches, one_matches, is_not, may_vanish}
+use Rattle.ksh_pattern.specs.Cells.{wholes, rests, meaning, whole, rest, whole_all, rest_all, whole_some, rest_some, rest_copies, rest_repeated, looped}
+use Rattle.std.proofs.Math.Bool.{and-true}
+use Rattle.ksh_pattern.proofs.Cuts.{cut_and, cut_same, wholes_more, rests_more, joined_more, either_more, number_of_one}
 use Rattle.ksh_pattern.proofs.Levels.{cell_whole, cell_rest, not_whole, not_rest}
 
 -- the item at an index behind those before it

@@ -1,5 +1,5 @@
 -- Which bytes a test takes.
-use Rattle.std.specs.Prelude.{ℕ, ◌==◌, List, Bool, true, false, ◌||◌, ◌&&◌, not, nat_le, nat_lt}
+use Rattle.std.specs.Prelude.{ℕ, ◌==◌, List, Bool, true, false, ◌||◌, ◌&&◌, not, nat_le}
 use Rattle.std.specs.Char.{is_ascii_alphabetic, is_ascii_alphanumeric, is_ascii_control, is_ascii_digit, is_ascii_graphic, is_ascii_hexdigit, is_ascii_lowercase, is_ascii_punctuation, is_ascii_uppercase}
 use Rattle.std.specs.List.{list_any}
 use Rattle.ksh_pattern.specs.declared.byte_test.Class.{Class}

@@ -1,10 +1,10 @@
 -- What is left of a pattern that is being matched.
-use Rattle.std.specs.Prelude.{ℕ, List, [], ◌∷◌, Bool, true, false, ◌||◌, ◌&&◌, not, map}
+use Rattle.std.specs.Prelude.{List, [], ◌∷◌, true, false, ◌||◌, ◌&&◌, not, map}
 use Rattle.std.specs.Global.{Vec}
 use Rattle.std.specs.List.{list_any}
-use Rattle.ksh_pattern.specs.Match.{Texts, is_empty_text, one_byte, some_cut, joined, either, any_number, repeated, one_matches}
+use Rattle.ksh_pattern.specs.Match.{Texts, is_empty_text, one_byte, some_cut, either, any_number, repeated, one_matches}
 use Rattle.ksh_pattern.specs.declared.part.Kind.{Kind}
-use Rattle.ksh_pattern.specs.declared.part.Kind.TheVariants.{Optional, Any, Many, One, Not}
+use Rattle.ksh_pattern.specs.declared.part.Kind.TheVariants.{Any, Many, Not}
 use Rattle.ksh_pattern.specs.declared.cell.Cell.{Cell, Cell-F, fold-Cell}
 
 -- of a part: the texts that it matches, and those that lead from one of its marks to its end

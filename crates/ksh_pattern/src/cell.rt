@@ -5,6 +5,7 @@ ghost use Rattle.ksh_pattern.specs.ByteTests.{accepts};
 ghost use Rattle.ksh_pattern.specs.Match.{part_matches, matches, one_matches, repeated, goes_on};
 ghost use Rattle.ksh_pattern.specs.Cells.{whole, rest, whole_all, rest_all, whole_some, rest_some, rest_copies, rest_repeated, looped};
 
+use crate::alike::drop_doubles;
 use crate::byte_test::ByteTest;
 use crate::part::{Kind, Part};
 use ksh_base::{Items, Memory, Shared};
@@ -471,6 +472,7 @@ fn shift_not(
         let copy = begin_some(alloc, alternatives, true, byte)?;
         copies.push(copy)?;
     }
+    drop_doubles(copies);
     let before = Look {
         last,
         empty: !empty_some(alternatives),

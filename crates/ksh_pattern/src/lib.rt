@@ -1,6 +1,7 @@
 //! Patterns: `*`, `?`, brackets, and groups with their repetitions, against texts.
 #![tactic(auto)]
 
+mod alike;
 mod build;
 mod byte_test;
 mod cell;

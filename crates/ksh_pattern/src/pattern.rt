@@ -46,6 +46,13 @@ impl Pattern {
         Ok(Pattern { parts, alloc })
     }
 
+    /// The parts that the pattern is read as.
+    pub fn parts(&self) -> &[Part]
+        ensures { result.now ≡ self.now }
+    {
+        self.parts.as_slice()
+    }
+
     /// Whether the pattern matches the whole text.
     pub fn matches(&self, text: &[u8]) -> Result<bool, Memory>
         ensures { IfOk result (λ matched. matched ≡ matches self.now text.now) }

@@ -1,9 +1,9 @@
-use Rattle.std.proofs.Common.{ap, sym, ◌∙◌, [], ◌&&◌, ◌∷◌, not, refl}
+use Rattle.std.proofs.Common.{ap, sym, ◌∙◌, ◌&&◌, ◌∷◌, not, refl}
 use Rattle.std.proofs.lemmas.Result.{IfOk-weaker}
-use Rattle.ksh_pattern.specs.Match.{matches, part_matches, one_matches}
+use Rattle.ksh_pattern.specs.Match.{matches, one_matches}
 use Rattle.ksh_pattern.specs.Cells.{whole_all, rest_all, whole_some, rest_some}
-use Rattle.ksh_pattern.proofs.Levels.{group_matches, group_is}
-use Rattle.ksh_pattern.proofs.Walks.{begin_rest, begin_whole, begin_some_rest, begin_some_whole, matches_next, passes_on, group_begins_whole, group_begins_rest, not_begins_whole, not_begins_rest}
+use Rattle.ksh_pattern.proofs.Levels.{group_is}
+use Rattle.ksh_pattern.proofs.Walks.{begin_rest, begin_whole, begin_some_rest, begin_some_whole, passes_on, group_begins_whole, group_begins_rest, not_begins_rest}
 use Rattle.ksh_pattern.proofs.cell.+begin.Goals as goal
 
 pub begin_all-loop-part-preserved : goal.begin_all-loop-part-preserved

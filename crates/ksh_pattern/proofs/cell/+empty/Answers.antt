@@ -1,7 +1,6 @@
 use Rattle.std.proofs.Common.{[], ap, sym, ◌∙◌}
 use Rattle.ksh_pattern.specs.Match.{one_matches, has_empty}
 use Rattle.ksh_pattern.proofs.Levels.{group_empty}
-use Rattle.ksh_pattern.proofs.Walks.{begin_rest}
 use Rattle.ksh_pattern.proofs.cell.+empty.Goals as goal
 
 pub empty_part-returns-in-Group : goal.empty_part-returns-in-Group

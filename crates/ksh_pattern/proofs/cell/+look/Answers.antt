@@ -1,6 +1,6 @@
 use Rattle.std.proofs.Common.{ap, sym, ◌∙◌, [], ◌&&◌, ◌||◌}
 use Rattle.ksh_pattern.specs.Match.{may_vanish}
-use Rattle.ksh_pattern.specs.Cells.{whole, rest, whole_all, rest_all, whole_some, rest_some, rest_copies}
+use Rattle.ksh_pattern.specs.Cells.{whole_all, rest_all, whole_some, rest_some, rest_copies}
 use Rattle.ksh_pattern.proofs.Walks.{whole_next, rest_next, whole_some_next, rest_some_next, group_rest_here, group_whole_here, not_rest_is}
 use Rattle.ksh_pattern.proofs.cell.+look.Goals as goal
 

@@ -1,4 +1,4 @@
-use Rattle.std.proofs.Common.{rules, ◌≡◌, ◌≤◌, ◌<◌, ◌||◌, ◌&&◌, [], get_or, length, arith, sym, ap, refl, ◌∙◌}
+use Rattle.std.proofs.Common.{◌≡◌, ◌≤◌, ◌<◌, ◌||◌, ◌&&◌, [], get_or, length, arith, sym, ap, refl, ◌∙◌}
 use Rattle.std.proofs.lemmas.List.{length-set}
 use denote.Param.Weighed.{at_most, most}
 use Rattle.std.specs.Global.{Vec}

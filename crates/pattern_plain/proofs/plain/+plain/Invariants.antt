@@ -1,0 +1,37 @@
+use Rattle.std.proofs.Common.{◌≡◌, ℕ, ◌+◌, ◌*◌, ◌<◌, ◌≤◌, ◌&&◌, false, List, take, drop, length}
+use Rattle.ksh_pattern.specs.Match.{part_matches, matches, one_matches, any_number}
+use Rattle.pattern_plain.proofs.Weights.{weight, weights, heaviest}
+use Rattle.pattern_plain.proofs.plain.+plain.Given as goal
+
+-- the alternatives before this one don't match
+abbrev pub invariant-either-loop-parts : goal.invariant-either-loop-parts
+invariant-either-loop-parts l = one_matches l.alternatives l.text ≡ one_matches (drop l.parts-index l.alternatives) l.text
+
+-- no earlier cut serves
+abbrev pub invariant-any_number-loop-cut : goal.invariant-any_number-loop-cut
+invariant-any_number-loop-cut l = (i : ℕ) → 1 ≤ i → i < l.cut → (one_matches l.alternatives (take i l.text) && any_number (one_matches l.alternatives) (drop i l.text)) ≡ false
+
+abbrev pub invariant-one_and_more-loop-cut : goal.invariant-one_and_more-loop-cut
+invariant-one_and_more-loop-cut l = (i : ℕ) → i < l.cut → (one_matches l.alternatives (take i l.text) && any_number (one_matches l.alternatives) (drop i l.text)) ≡ false
+
+abbrev pub invariant-all-loop-cut : goal.invariant-all-loop-cut
+invariant-all-loop-cut l = (i : ℕ) → i < l.cut → (part_matches l.first (take i l.text) && matches l.rest (drop i l.text)) ≡ false
+
+-- a text is never longer than the one before, and a list of parts never heavier
+abbrev pub decreases-one : goal.decreases-one
+decreases-one l = 5 * weight l.part.now + length l.text.now
+
+abbrev pub decreases-all : goal.decreases-all
+decreases-all l = 5 * weights l.parts.now + length l.text.now
+
+abbrev pub decreases-either : goal.decreases-either
+decreases-either l = 5 * heaviest l.alternatives.now + length l.text.now + 1
+
+abbrev pub decreases-any_number : goal.decreases-any_number
+decreases-any_number l = 5 * heaviest l.alternatives.now + length l.text.now + 2
+
+abbrev pub decreases-one_and_more : goal.decreases-one_and_more
+decreases-one_and_more l = 5 * heaviest l.alternatives.now + length l.text.now + 3
+
+abbrev pub decreases-group : goal.decreases-group
+decreases-group l = 5 * heaviest l.alternatives.now + length l.text.now + 4
