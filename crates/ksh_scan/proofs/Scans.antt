@@ -78,29 +78,31 @@ is_long text f short refuted e = long (lt_of_not-le (λ h. refuted (short h))) e
 
 -- the tokens so far, what they tell, and where the scanner stands
 pub record Scanned (text : List ℕ) (left : Left) (s : State) : Type 0 where
+  pub size : length text ≤ longest_text
   pub front : List Token
   pub events : List Event
   pub at : IsAt text front events left s
 
 pub finished : (text : List ℕ) (left : Left) (s : State) → Scanned text left s → ((front : List Token) (events : List Event) → HasRead front left events → IsScript front events) → IsText text
-finished text left s h f = (s, h.front, h.events, h.at.spelled, f h.front h.events h.at.read)
+finished text left s h f = (h.size, s, h.front, h.events, h.at.spelled, f h.front h.events h.at.read)
 
 pub scans_on : (text : List ℕ) (left left' : Left) (s s' : State) (marks : List Mark) (n : Seen) → Scanned text left s
     → ((text : List ℕ) (front : List Token) (events : List Event) → IsAt text front events left s → StepsOn text front events s left' s' marks (Ok n)) → Scanned text left' s'
 scans_on text left left' s s' marks n h step =
     let next = step text h.front h.events h.at in
-    record { front = h.front ++ (next.0, n.kind) ∷ []; events = (h.events ++ map Marked marks) ++ Took (next.0, n.kind) ∷ []; at = next.1 }
+    record { size = h.size; front = h.front ++ (next.0, n.kind) ∷ []; events = (h.events ++ map Marked marks) ++ Took (next.0, n.kind) ∷ []; at = next.1 }
 
 pub scan_fault : (text : List ℕ) (left left' : Left) (s s' : State) (marks : List Mark) (r : SyntaxRefused) → Scanned text left s
     → ((text : List ℕ) (front : List Token) (events : List Event) → IsAt text front events left s → StepsOn text front events s left' s' marks (Err r)) → IsRefused text r
-scan_fault text left left' s s' marks (Fault f) h step = first s h.front h.events h.at.spelled (live h.front left h.events h.at.read) (step text h.front h.events h.at)
+scan_fault text left left' s s' marks (Fault f) h step = first s h.front h.events h.size h.at.spelled (live h.front left h.events h.at.read) (step text h.front h.events h.at)
 scan_fault text left left' s s' marks Memory h step = tt
 
 pub stops : (front : List Token) (m : Mode) (s s' : State) (f : SyntaxFault) → IsOnly front m → Sees s m (Err f) s' → IsFaultBehind front s f
 stops front m s s' f only sees = of_text m s' only sees
 
-pub begins : (text : List ℕ) (left : Left) (s : State) → HasRead [] left [] → s ≡ start text → Scanned text left s
-begins text left s h e = record {
+pub begins : (text : List ℕ) (left : Left) (s : State) → length text ≤ longest_text → HasRead [] left [] → s ≡ start text → Scanned text left s
+begins text left s size h e = record {
+  size = size;
   front = [];
   events = [];
   at = record { read = h; spelled = subst (λ z. Spelled text z [] []) (sym e) nothing_read };

@@ -1,5 +1,5 @@
 -- What a script's text is for the grammar, and its first fault.
-use Rattle.std.specs.Prelude.{◌≡◌, ◌<◌, ℕ, Bool, true, false, not, ◌||◌, ◌&&◌, List, [], ◌∷◌, ◌++◌, length, map, Option, Some, None, Result, Ok, Err, if◌then◌else◌}
+use Rattle.std.specs.Prelude.{◌≡◌, ◌<◌, ◌≤◌, ℕ, Bool, true, false, not, ◌||◌, ◌&&◌, List, [], ◌∷◌, ◌++◌, length, map, Option, Some, None, Result, Ok, Err, if◌then◌else◌}
 use Rattle.ksh_lexer.specs.declared.fault.SyntaxFault.{SyntaxFault}
 use Rattle.ksh_lexer.specs.declared.fault.SyntaxKind.{SyntaxKind}
 use Rattle.ksh_lexer.specs.declared.fault.SyntaxKind.TheVariants as fault
@@ -40,7 +40,7 @@ pub data Spelled (text : List ℕ) : State → List Token → List Event → Typ
 
 -- the text is a script
 abbrev pub IsText : List ℕ → Type 0
-IsText text = (s : State) × (front : List Token) × (events : List Event) × Spelled text s front events × IsScript front events
+IsText text = (length text ≤ longest_text) × (s : State) × (front : List Token) × (events : List Event) × Spelled text s front events × IsScript front events
 
 -- no script goes on with a token of another mode
 abbrev pub IsOnly : List Token → Mode → Type 0
@@ -147,7 +147,7 @@ pub data IsFaultBehind (front : List Token) (s : State) (f : SyntaxFault) : Type
 -- The first fault of a text: it is too long, or what was read before the fault can be completed, and what comes then can't.
 pub data HasFault (text : List ℕ) (f : SyntaxFault) : Type 0 where
   long : longest_text < length text → f ≡ too_long text → HasFault text f
-  first : (s : State) (front : List Token) (events : List Event) → Spelled text s front events → IsLive front → IsFaultBehind front s f → HasFault text f
+  first : (s : State) (front : List Token) (events : List Event) → length text ≤ longest_text → Spelled text s front events → IsLive front → IsFaultBehind front s f → HasFault text f
 
 abbrev pub IsRefused : List ℕ → SyntaxRefused → Type 0
 IsRefused text (Fault f) = HasFault text f

@@ -1,5 +1,5 @@
 //! The reader of a script's tokens.
-ghost use Rattle.std.specs.Prelude.{◌≡◌, ◌≤◌, ℕ, true, [], List, IfOk, IfErr, OnOk};
+ghost use Rattle.std.specs.Prelude.{◌≡◌, ◌≤◌, ℕ, true, [], List, length, IfOk, IfErr, OnOk};
 ghost use Rattle.ksh_lexer.specs.Place.{fault_at, longest_text};
 ghost use Rattle.ksh_syntax.specs.Sentences.{Event, HasRead, IsScript, Token};
 ghost use Rattle.ksh_scan.specs.Scan.{start, IsRefused, IsToldBy};
@@ -31,6 +31,7 @@ impl<'a> Scanner<'a> {
     /// A reader at the text's first byte. `TooLong` exactly for a text of more than `LONGEST_TEXT` bytes.
     pub fn new(alloc: Global, text: &'a [u8]) -> Result<Scanner<'a>, SyntaxRefused>
         ensures ok { IfOk result (λ s. HasRead [] s.reading.left.items [] × (s.state ≡ start text.now)) }
+        ensures size { OnOk result (length text.now ≤ longest_text) }
         ensures refused { IfErr result (λ r. IsRefused text.now r) }
     {
         let lexer = match Lexer::new(alloc, text) {

@@ -3,7 +3,7 @@ use Rattle.ksh_scan.proofs.Scans.{begins, scan_fault}
 use Rattle.ksh_scan.proofs.check.check_text.Goals as goal
 
 pub loop-init : goal.loop-init
-loop-init c = begins c.args.text.now c.in_ok-scanner.scanner.reading.left.items c.in_ok-scanner.scanner.state (search rules) (search rules)
+loop-init c = begins c.args.text.now c.in_ok-scanner.scanner.reading.left.items c.in_ok-scanner.scanner.state (search rules) (search rules) (search rules)
 
 pub returns-in-Err-clause-refused : goal.returns-in-Err-clause-refused
 returns-in-Err-clause-refused c =
