@@ -1,6 +1,6 @@
 use crate::{
     Body, BraceEnd, Descriptor, Form, HereDocument, LONGEST_TEXT, LexMode, Lexer, Operator,
-    Redirection, SyntaxFault, SyntaxKind, Token, TokenKind, ansi_text,
+    Redirection, SyntaxFault, SyntaxKind, Token, TokenKind, ansi_text, end_word, is_quoted,
 };
 use ksh_base::{Place, Text};
 use std::alloc::Global;
@@ -383,17 +383,36 @@ fn the_limit_and_the_escapes_are_exact(rt: HostRuntime) -> Result<(), Fail> {
 }
 
 #[test]
+fn a_body_ends_at_its_word_without_the_quotes(rt: HostRuntime) -> Result<(), Fail> {
+    let rows: [(&[u8], &[u8], bool); 8] = [
+        (b"E", b"E", false),
+        (b"'a b'c", b"a bc", true),
+        (b"\"a\\$b\\c\"", b"a$b\\c", true),
+        (b"\\E\\", b"E\\", true),
+        (b"a\\\nb", b"ab", true),
+        (b"$'a\\tb\\''$c", b"a\tb'$c", true),
+        (b"$x", b"$x", false),
+        (b"\"", b"", true),
+    ];
+    for (word, line, quoted) in rows {
+        let end = end_word(rt.alloc(), word)?;
+        assert!(rt; end.bytes() == line && is_quoted(word) == quoted);
+    }
+    Ok(())
+}
+
+#[test]
 fn bodies_and_lines_lie_in_the_text(rt: HostRuntime) -> Result<(), Fail> {
     let alloc = rt.alloc();
     let text: &[u8] = b"<<-E <<F\n\ta$b\n\t\tE\n";
     let mut lexer = Lexer::new(alloc, text)?;
-    let mut inside = lexer.inside(alloc, Body { from: 9, to: 14 });
-    let body = LexMode::HereBody {
+    let mut inside = lexer.inside(alloc, body(9, 14, true));
+    let mode = LexMode::HereBody {
         tabs: true,
         expands: true,
     };
     for (from, to) in [(10, 11), (11, 13), (13, 14), (14, 14)] {
-        let token = inside.next(body)?;
+        let token = inside.next(mode)?;
         assert!(rt; token.from == from && token.to == to);
     }
     assert_eq!(rt; lexer.line_at(14), 3);
