@@ -7,6 +7,7 @@ pub mod Nameless
 pub mod NamelessTurns
 pub mod Names
 pub mod Opened
+pub mod RefusedTurns
 pub mod Rows
 pub mod Shells
 pub mod Sound

@@ -38,7 +38,7 @@ use Rattle.kernel_core.specs.declared.kernel.Kernel.{Kernel}
 use Rattle.kernel_core.specs.declared.kernel.Stores.{Stores}
 use Rattle.kernel_core.specs.declared.programs.Run.{Run}
 use Rattle.kernel_core.specs.Files.{is_full}
-use Rattle.kernel_core.specs.Forks.{fork_kept, fork_turn, has_begun, kept_from, lives, lives_in, phase_set_in, poll_fork, poll_turn}
+use Rattle.kernel_core.specs.Forks.{fork_kept, fork_turn, has_begun, kept_from, phase_set_in, poll_fork, poll_turn}
 use Rattle.kernel_core.specs.Handles.{close_held, close_turn, dup_held, dup_turn, ended_by, is_reading, is_writing, lacks_handles}
 use Rattle.kernel_core.specs.Limits.{most_files, most_number, most_shells}
 use Rattle.kernel_core.specs.Look.{list_refusal, list_turn, stat_node, stat_turn}
@@ -48,10 +48,10 @@ use Rattle.kernel_core.specs.Programs.{on_output, output_of, run_of, start_outpu
 use Rattle.kernel_core.specs.Step.{Marks, Row, call_turn}
 use Rattle.kernel_core.specs.Transfer.{RowTurn, Says, Holds, by_held, by_row, held_for, on_row, read_turn, write_stream, write_turn}
 use Rattle.kernel_core.specs.Turn.{Turn, Answers, Waits, by_shell, unless}
-use Rattle.kernel_laws.specs.Stored.{HasFewFiles, HoldsFew, IsSmall, StoresFew}
+use Rattle.kernel_laws.specs.Stored.{HasFewFiles, IsSmall, StoresFew}
 use Rattle.kernel_laws.specs.Reached.{Reached, Opens, Asks, Ends}
 use Rattle.kernel_laws.proofs.Moves.{second_false}
-use Rattle.kernel_laws.proofs.Stored.{After, IsSmallRow, IsThere, KeepsFew, Stored, after_open, all_released_stored, all_retained_rows, opened_small, put_most, read_few, released_stored, retained_rows, rows_set, write_few}
+use Rattle.kernel_laws.proofs.Stored.{IsSmallRow, KeepsFew, Stored, after_open, all_released_stored, all_retained_rows, opened_small, put_most, read_few, released_stored, retained_rows, rows_set, write_few}
 use Rattle.kernel_laws.proofs.Turns.{room}
 
 abbrev IsStored : Type 0 → Kernel → Type 0

@@ -3,4 +3,5 @@ pub mod Counts
 pub mod LastNumbers
 pub mod Nameless
 pub mod Reached
+pub mod Refusals
 pub mod Stored

@@ -5,6 +5,7 @@ ghost use Rattle.kernel_laws.specs.Bounds.{HasBounds};
 ghost use Rattle.kernel_laws.specs.Counts.{CountsHandles, EndedHoldNone};
 ghost use Rattle.kernel_laws.specs.LastNumbers.{GivesLastNumber, NeedsTwoNumbers, StartsNoneAfter};
 ghost use Rattle.kernel_laws.specs.Nameless.{CountsNameless};
+ghost use Rattle.kernel_laws.specs.Refusals.{RefusalsKeep};
 ghost use Rattle.kernel_laws.specs.Stored.{HasFewFiles, StoresFew};
 
 /// Each open row counts the handles that stand for it, those that read (or do both) and those that only write, over
@@ -28,6 +29,12 @@ pub fn shells_are_bounded<F>()
 pub fn stores_are_bounded<F>()
     ensures bytes { StoresFew F }
     ensures files { HasFewFiles F }
+{}
+
+/// An ask that is refused leaves the kernel as it was, whatever kernel it is.
+#[tactic(auto, using(crate::proofs::RefusedTurns::refusals_keep))]
+pub fn refusals_change_nothing<F>()
+    ensures { RefusalsKeep F }
 {}
 
 /// A shell is given the number 4,294,967,295 for a handle, and then no handle more: Dup is refused as TooMany. Pipe and
