@@ -1,5 +1,5 @@
 -- Entries whose keys rise: where a key stands among them, and what changes there.
-use Rattle.std.proofs.Common.{◌≡◌, ℕ, suc, zero, ◌<◌, ◌≤◌, ◌-◌, ◌+◌, ◌⊎◌, inl, inr, List, [], ◌∷◌, Option, Some, None, length, slice_get, slice_set, get_or, false, refl, sym, ap, ◌∙◌, arith, rules}
+use Rattle.std.proofs.Common.{◌≡◌, ℕ, suc, zero, ◌<◌, ◌≤◌, ◌-◌, ◌+◌, ◌⊎◌, inl, inr, List, [], ◌∷◌, Option, Some, None, length, slice_get, slice_set, get_or, false, Bool, refl, sym, ap, ◌∙◌, arith, rules}
 use Rattle.std.specs.declared.cmp.Ordering.{Ordering}
 use Rattle.std.specs.declared.cmp.Ordering.TheVariants.{Less, Equal, Greater}
 use Rattle.std.specs.Ordering.{ordering_reverse}
@@ -7,7 +7,9 @@ use Rattle.std.specs.Cmp.{IsTotalOrder}
 use Rattle.std.specs.Ordering.{is_eq, match_ordering}
 use Rattle.std.specs.Option.{option_map}
 use Rattle.std.specs.BTreeMap.{is_at, insert_entry}
-use Rattle.std.specs.List.{insert}
+use Rattle.std.specs.List.{insert, filter, AllByRecursion}
+use Rattle.std.proofs.lemmas.Bool.{cases_Bool}
+use Rattle.std.proofs.lemmas.List.Kept.{IsStrictlySortedBy-filter}
 use Rattle.std.specs.Map.{keys_of, lookup}
 use Rattle.std.specs.List.Sorted.{IsStrictlySortedBy}
 use Rattle.std.proofs.lemmas.Map.Keys.{Less-from_sorted}
@@ -103,3 +105,38 @@ module _ {K X : Type 0} (cmp : K → K → Ordering) (k : K) where
   put_between v [] (suc i) l b t = absurd (omega arith)
   put_between v (e ∷ es) zero l b t = put_step v e es Less (t e refl)
   put_between v (e ∷ es) (suc i) l b t = put_step v e es Greater (first_before e es i b) ∙ ap (λ xs. e ∷ xs) (put_between v es i (omega arith) (rest_before e es i b) t)
+
+-- ---- keys that rise go on rising
+all_weaker : {K : Type 0} {P Q : K → Type 0} → ((x : K) → P x → Q x) → (xs : List K) → AllByRecursion P xs → AllByRecursion Q xs
+all_weaker f [] a = tt
+all_weaker f (x ∷ xs) a = (f x a.0, all_weaker f xs a.1)
+
+keys_filter : {K X : Type 0} (p : K → Bool) (es : List (K × X)) → keys_of (filter (λ e. p e.0) es) ≡ filter p (keys_of es)
+keys_filter p [] = refl
+keys_filter p (e ∷ es) = elim (cases_Bool (p e.0)) [ inl h ↦ rw h (ap (λ ks. e.0 ∷ ks) (keys_filter p es)) | inr h ↦ rw h (keys_filter p es) ]
+
+pub rising_filter : {K X : Type 0} (R : K → K → Ordering) (p : K → Bool) (es : List (K × X)) → IsStrictlySortedBy R (keys_of es) → IsStrictlySortedBy R (keys_of (filter (λ e. p e.0) es))
+rising_filter R p es s = rw (keys_filter p es) (IsStrictlySortedBy-filter R p (keys_of es) s)
+
+all_put_by : {K X : Type 0} (P : K → Type 0) (k : K) (v : X) (e : K × X) (es more : List (K × X)) → P k → AllByRecursion P (keys_of (e ∷ es)) → AllByRecursion P (keys_of more) → (r : Ordering) → AllByRecursion P (keys_of (match_ordering r ((k, v) ∷ e ∷ es) ((e.0, v) ∷ es) (e ∷ more)))
+all_put_by P k v e es more p a b Less = (p, a)
+all_put_by P k v e es more p a b Equal = a
+all_put_by P k v e es more p a b Greater = (a.0, b)
+
+all_put : {K X : Type 0} (R : K → K → Ordering) (P : K → Type 0) (k : K) (v : X) (es : List (K × X)) → P k → AllByRecursion P (keys_of es) → AllByRecursion P (keys_of (insert_entry R es k v))
+all_put R P k v [] p a = (p, a)
+all_put R P k v (e ∷ es) p a = all_put_by P k v e es (insert_entry R es k v) p a (all_put R P k v es p a.1) (R k e.0)
+
+rising_put_by : {K X : Type 0} {R : K → K → Ordering} (o : IsTotalOrder R) (k : K) (v : X) (e : K × X) (es : List (K × X)) → IsStrictlySortedBy R (keys_of (e ∷ es)) → IsStrictlySortedBy R (keys_of (insert_entry R es k v)) → (r : Ordering) → R k e.0 ≡ r → IsStrictlySortedBy R (keys_of (match_ordering r ((k, v) ∷ e ∷ es) ((e.0, v) ∷ es) (e ∷ insert_entry R es k v)))
+unfolding IsStrictlySortedBy
+rising_put_by o k v e es s more Less h = ((h, all_weaker (λ y g. o.trans k e.0 y h g) (keys_of es) s.0), s)
+rising_put_by o k v e es s more Equal h = s
+rising_put_by {R = R} o k v e es s more Greater h =
+    let below : R e.0 k ≡ Less = o.antisymm e.0 k ∙ ap ordering_reverse h in
+    (all_put R (λ y. R e.0 y ≡ Less) k v es below s.0, more)
+
+-- entries that rise do so with one more
+pub rising_put : {K X : Type 0} {R : K → K → Ordering} (o : IsTotalOrder R) (k : K) (v : X) (es : List (K × X)) → IsStrictlySortedBy R (keys_of es) → IsStrictlySortedBy R (keys_of (insert_entry R es k v))
+unfolding IsStrictlySortedBy
+rising_put o k v [] s = (tt, tt)
+rising_put {R = R} o k v (e ∷ es) s = rising_put_by o k v e es s (rising_put o k v es s.1) (R k e.0) refl

@@ -1,5 +1,5 @@
 -- The fronts of a path: the path cut after some of its steps.
-use Rattle.std.specs.Prelude.{◌≡◌, ℕ, ◌<◌, ◌≤◌, List, Result, length, take, slice_get, Some}
+use Rattle.std.specs.Prelude.{◌≡◌, ℕ, ◌<◌, ◌≤◌, List, Result, length, take, slice_get, Some, Ok, Err}
 use Rattle.std.specs.declared.cmp.Ordering.{Ordering}
 use Rattle.std.specs.declared.cmp.Ordering.TheVariants.{Less, Equal, Greater}
 use Rattle.var_types.specs.declared.path.Path.{Path}
@@ -23,3 +23,8 @@ pub record IsPlace {H : Type 0} (rows : Rows H) (path : Path) (at : ℕ) (found 
   pub within : at ≤ length rows
   pub before : AreBefore rows path at
   pub there : (r : Row H) → slice_get rows at ≡ Some r → path_cmp path r.0 ≡ found
+
+-- where a search ends: at the row of the path, or where it would be put
+abbrev pub Places : {H : Type 0} → Rows H → Path → Result ℕ ℕ → Type 0
+Places rows path (Ok i) = (i < length rows) × IsPlace rows path i Equal
+Places rows path (Err i) = IsPlace rows path i Less

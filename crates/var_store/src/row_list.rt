@@ -1,15 +1,16 @@
-ghost use Rattle.std.specs.Prelude.{◌≡◌, [], ◌≤◌, ◌<◌, length, IfOk, OnOk, OnErr, MatchResult};
-ghost use Rattle.std.specs.declared.cmp.Ordering.TheVariants.{Less, Equal, Greater};
+ghost use Rattle.std.specs.Prelude.{◌≡◌, [], ◌≤◌, ◌<◌, ◌+◌, length, IfOk, OnOk, OnErr};
+ghost use Rattle.std.specs.Vec.{vec_len, vec_capacity};
 ghost use Rattle.std.specs.Option.{option_copied};
 ghost use Rattle.var_types.specs.Rows.{IsRising, cell_at};
 ghost use Rattle.var_types.specs.Order.{path_cmp};
-ghost use Rattle.var_store.specs.Fronts.{front, IsPlace};
+ghost use Rattle.var_store.specs.Fronts.{front, Places};
+ghost use Rattle.var_store.specs.Changes.{with_row, with_rows, without, without_scope};
 
 use ksh_base::Memory;
 use std::alloc::Global;
 use std::cmp::Ordering;
 use std::marker::Model;
-use var_types::{Cell, Path};
+use var_types::{Cell, Path, is_prefix};
 
 /// Rows in a vector, rising by path, each path once.
 #[derive(Drop)]
@@ -25,6 +26,67 @@ impl<H> Model for RowList<H> {
     ghost view = { λ l. l.rows.items };
 
     ghost invariant = { λ l. IsRising l.rows.items };
+}
+
+impl<H> RowList<H> {
+    /// No rows. Takes no memory.
+    pub fn new(alloc: Global) -> RowList<H>
+        ensures { result ≡ [] }
+    {
+        RowList {
+            rows: Vec::new(alloc),
+        }
+    }
+
+    pub fn rows(&self) -> &[(Path, Cell<H>)]
+        ensures rows { result.now ≡ self.now }
+        ensures rising { IsRising self.now }
+    {
+        self.rows.as_slice()
+    }
+
+    /// Where the row of the path is, or where it would be put.
+    pub fn place(&self, path: &Path) -> Result<usize, usize>
+        ensures { Places self.now path.now result }
+    {
+        place_of(self.rows.as_slice(), path)
+    }
+
+    /// The cell of the row at the first `depth` steps of the path.
+    pub fn find(&self, path: &Path, depth: usize) -> Option<&Cell<H>>
+        requires { depth ≤ length path.now.steps }
+        ensures { option_copied result ≡ cell_at (front depth path.now) self.now }
+    {
+        cell_of(self.rows.as_slice(), path, depth)
+    }
+}
+
+impl<H: Drop> RowList<H> {
+    /// Writes each of the rows, one after the other, or none.
+    pub fn write(&mut self, writes: Vec<(Path, Cell<H>)>) -> Result<(), Memory>
+        ensures ok { OnOk result (self.new ≡ with_rows writes.items self.old) }
+        ensures err { OnErr result (self.new ≡ self.old) }
+    {
+        self.rows.reserve(writes.len())?;
+        for (path, cell) in writes {
+            write_one(&mut self.rows, path, cell);
+        }
+        Ok(())
+    }
+
+    /// Takes away the row of the path and those below it.
+    pub fn remove_below(&mut self, path: &Path)
+        ensures { self.new ≡ without path.now self.old }
+    {
+        self.rows.retain(|row| !is_prefix(path, &row.0));
+    }
+
+    /// Takes away the rows of a scope.
+    pub fn remove_scope(&mut self, scope: u32)
+        ensures { self.new ≡ without_scope scope self.old }
+    {
+        self.rows.retain(|row| row.0.scope != scope);
+    }
 }
 
 /// How a path compares to the first `depth` steps of another.
@@ -47,7 +109,7 @@ fn compare_front<H>(row: &(Path, Cell<H>), path: &Path, depth: usize) -> Orderin
 fn place<H>(rows: &[(Path, Cell<H>)], path: &Path, depth: usize) -> Result<usize, usize>
     requires within { depth ≤ length path.now.steps }
     requires rising { IsRising rows.now }
-    ensures { MatchResult result (λ i. (i < length rows.now) × IsPlace rows.now (front depth path.now) i Equal) (λ i. IsPlace rows.now (front depth path.now) i Less) }
+    ensures { Places rows.now (front depth path.now) result }
 {
     let mut low = 0;
     let mut high = rows.len();
@@ -60,4 +122,41 @@ fn place<H>(rows: &[(Path, Cell<H>)], path: &Path, depth: usize) -> Result<usize
         }
     }
     Err(low)
+}
+
+/// Where the row of the path is, or where it would be put.
+fn place_of<H>(rows: &[(Path, Cell<H>)], path: &Path) -> Result<usize, usize>
+    requires { IsRising rows.now }
+    ensures { Places rows.now path.now result }
+{
+    place(rows, path, path.steps.len())
+}
+
+/// The cell of the row of the first `depth` steps of the path.
+fn cell_of<'a, H>(rows: &'a [(Path, Cell<H>)], path: &Path, depth: usize) -> Option<&'a Cell<H>>
+    requires within { depth ≤ length path.now.steps }
+    requires rising { IsRising rows.now }
+    ensures { option_copied result ≡ cell_at (front depth path.now) rows.now }
+{
+    match place(rows, path, depth) {
+        Ok(at) => Some(&rows[at].1),
+        Err(_) => None,
+    }
+}
+
+/// Writes a row, where there is room for one.
+fn write_one<H: Drop>(rows: &mut Vec<(Path, Cell<H>)>, path: Path, cell: Cell<H>)
+    requires rising { IsRising rows.old.items }
+    requires room { vec_len rows.old < vec_capacity rows.old }
+    ensures written { rows.new.items ≡ with_row path cell rows.old.items }
+    ensures rising { IsRising rows.new.items }
+    ensures len { vec_len rows.new ≤ vec_len rows.old + 1 }
+    ensures capacity { vec_capacity rows.old ≤ vec_capacity rows.new }
+{
+    match place_of(rows.as_slice(), &path) {
+        Ok(at) => rows[at].1 = cell,
+        Err(at) => {
+            let _written = rows.insert(at, (path, cell));
+        }
+    }
 }
