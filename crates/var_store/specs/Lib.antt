@@ -1,2 +1,4 @@
 pub mod Changes
+pub mod Faults
 pub mod Fronts
+pub mod Standing
