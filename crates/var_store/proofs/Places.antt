@@ -1,17 +1,18 @@
 -- What the place of a path says of its row.
-use Rattle.std.proofs.Common.{◌≡◌, ℕ, ◌<◌, List, [], ◌∷◌, Option, Some, None, Result, Ok, Err, length, slice_get, slice_set, get_or, refl, sym, ap, ◌∙◌, not, ◌==◌, Bool}
+use Rattle.std.proofs.Common.{◌≡◌, ℕ, ◌<◌, List, [], ◌∷◌, Option, Some, None, Result, Ok, Err, length, take, slice_get, slice_set, get_or, refl, sym, ap, ◌∙◌, not, ◌==◌, Bool}
 use Rattle.std.specs.declared.cmp.Ordering.TheVariants.{Less, Equal}
 use Rattle.std.specs.Option.{option_map}
 use Rattle.std.specs.List.Sorted.{IsStrictlySortedBy}
 use Rattle.std.specs.List.{insert, filter}
 use Rattle.std.proofs.lemmas.Option.{slice_get_read}
 use Rattle.std.proofs.lemmas.Map.Entries.{lookup_at_gap}
+use Rattle.std.proofs.Math.Seq.{take-length}
 use Rattle.var_types.specs.declared.path.Path.{Path}
 use Rattle.var_types.specs.declared.cell.Cell.{Cell}
 use Rattle.var_types.specs.Order.{path_cmp, is_front}
 use Rattle.var_types.specs.Rows.{Row, Rows, IsRising, cell_at}
 use Rattle.var_types.specs.Totals.{path_total}
-use Rattle.var_store.specs.Fronts.{IsPlace, Places}
+use Rattle.var_store.specs.Fronts.{front, IsPlace, Places}
 use Rattle.var_store.specs.Changes.{with_row, without, without_scope}
 use Rattle.var_store.proofs.Sorted.{found_there, put_there, put_between, rising_put, rising_filter}
 
@@ -44,3 +45,6 @@ pub rising_none : {H : Type 0} (rows : Rows H) → rows ≡ [] → IsRising rows
 unfolding IsStrictlySortedBy
 rising_none [] h = tt
 rising_none (r ∷ rows) h = cc
+
+pub front_whole : (path : Path) → front (length path.steps) path ≡ path
+front_whole path = rw (take-length path.steps) refl

@@ -1,4 +1,5 @@
 pub mod Changes
 pub mod Faults
 pub mod Fronts
+pub mod Growth
 pub mod Standing

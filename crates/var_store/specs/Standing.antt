@@ -9,6 +9,7 @@ use Rattle.var_types.specs.declared.value.Value.{Value}
 use Rattle.var_types.specs.declared.value.Value.TheVariants.{Unset, Plain, Number}
 use Rattle.var_types.specs.declared.attrs.Attrs.{Attrs}
 use Rattle.var_types.specs.declared.cell.Cell.{Cell}
+use Rattle.var_types.specs.declared.cell.HookSet.{HookSet}
 use Rattle.var_types.specs.Rows.{Rows, cell_at, no_attrs, no_hooks}
 use Rattle.var_store.specs.declared.standing.Standing.{Standing}
 use Rattle.var_store.specs.Fronts.{front}
@@ -52,3 +53,12 @@ Held lent = unwrap_or (option_copied lent) Unset
 -- what the code keeps of a cell: its attributes and its value
 abbrev pub Stands : {H : Type 0} → Standing → Cell H → Type 0
 Stands kept cell = (kept.attrs ≡ cell.attrs) × (Held kept.value ≡ cell.value)
+
+-- the hooks of a row, and none where it isn't there
+abbrev pub hooks_of : {H : Type 0} → Option (Cell H) → HookSet H
+hooks_of None = no_hooks
+hooks_of (Some c) = c.hooks
+
+abbrev pub attrs_or : {H : Type 0} → Option (Cell H) → Attrs → Attrs
+attrs_or None a = a
+attrs_or (Some c) a = c.attrs

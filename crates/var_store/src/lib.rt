@@ -2,6 +2,7 @@
 #![tactic(auto)]
 
 mod faults;
+mod growth;
 mod row_list;
 mod standing;
 mod walk;

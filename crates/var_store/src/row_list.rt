@@ -61,6 +61,15 @@ impl<H> RowList<H> {
     }
 }
 
+impl<H> RowList<H> {
+    /// The cell of the row of the path.
+    pub fn find_row(&self, path: &Path) -> Option<&Cell<H>>
+        ensures { option_copied result ≡ cell_at path.now self.now }
+    {
+        self.find(path, path.steps.len())
+    }
+}
+
 impl<H: Drop> RowList<H> {
     /// Writes each of the rows, one after the other, or none.
     pub fn write(&mut self, writes: Vec<(Path, Cell<H>)>) -> Result<(), Memory>

@@ -29,7 +29,7 @@ fn single(value: Option<&Value>) -> bool
 }
 
 /// The attributes that a new element has from its array.
-fn for_element(attrs: Attrs) -> Attrs
+pub fn for_element(attrs: Attrs) -> Attrs
     ensures { result ≡ element_attrs attrs }
 {
     Attrs {
