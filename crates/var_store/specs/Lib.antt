@@ -1,5 +1,8 @@
+pub mod Calls
 pub mod Changes
 pub mod Faults
 pub mod Fronts
 pub mod Growth
+pub mod Numerals
+pub mod Shaping
 pub mod Standing

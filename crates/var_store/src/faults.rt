@@ -1,6 +1,7 @@
 ghost use Rattle.std.specs.Prelude.{◌≡◌};
 ghost use Rattle.var_store.specs.Faults.{no_faults, both, first_fault};
 
+use ksh_base::Memory;
 use thiserror::Error;
 
 /// Why a call on the variables is refused.
@@ -20,6 +21,17 @@ pub enum VarFault {
     WrongKind,
     #[error("out of memory")]
     Memory,
+}
+
+impl From<Memory> for VarFault {
+    ghost use Rattle.std.specs.Prelude.{◌≡◌};
+    ghost use Rattle.var_store.specs.declared.faults.VarFault.TheVariants.{Memory};
+
+    ghost from_gives = { λ _ e. e ≡ Memory };
+
+    fn from(_refused: Memory) -> VarFault {
+        VarFault::Memory
+    }
 }
 
 /// The faults that apply to a call, each by itself.

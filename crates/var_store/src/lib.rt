@@ -3,8 +3,12 @@
 
 mod faults;
 mod growth;
+mod numeral;
 mod row_list;
+mod shaping;
 mod standing;
+mod store;
 mod walk;
 
 pub use faults::VarFault;
+pub use store::VarStore;

@@ -73,6 +73,7 @@ fn faults_of(stands: Standing<'_>, refused: bool, step: &Step) -> Faults
 }
 
 /// What a walk along a path finds: the faults of its steps, and what stands at its end.
+#[derive(Clone, Copy)]
 pub struct Walked<'a> {
     pub faults: Faults,
     pub standing: Standing<'a>,
