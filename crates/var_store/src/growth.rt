@@ -35,7 +35,7 @@ pub fn with_step(mut path: Path, step: Step) -> Result<Path, Memory>
 }
 
 /// The hooks of the row after the first `depth` steps of the path.
-fn hooks_at<H: Drop>(rows: &RowList<H>, path: &Path, depth: usize) -> Result<HookSet<H>, Memory>
+pub fn hooks_at<H: Drop>(rows: &RowList<H>, path: &Path, depth: usize) -> Result<HookSet<H>, Memory>
     requires { depth ≤ length path.now.steps }
     ensures { IfOk result (λ h. h ≡ hooks_of (cell_at (front depth path.now) rows.now)) }
 {
@@ -131,7 +131,7 @@ fn element_attrs_at<H>(rows: &RowList<H>, zero: &Path, array: Attrs) -> Attrs
     }
 }
 
-fn copy_value(alloc: Global, value: Option<&Value>) -> Result<Value, Memory>
+pub fn copy_value(alloc: Global, value: Option<&Value>) -> Result<Value, Memory>
     ensures { IfOk result (λ v. v ≡ Held value.entry) }
 {
     match value {

@@ -1,8 +1,11 @@
 //! The variables of a shell: rows by path, with the faults of each change.
 #![tactic(auto)]
 
+mod changing;
+mod declaring;
 mod faults;
 mod growth;
+mod looking;
 mod numeral;
 mod row_list;
 mod shaping;

@@ -19,7 +19,7 @@ pub struct Standing<'a> {
 }
 
 /// One text or number.
-fn single(value: Option<&Value>) -> bool
+pub fn single(value: Option<&Value>) -> bool
     ensures { result ≡ is_single (Held value.entry) }
 {
     match value {
