@@ -154,13 +154,13 @@ refers NoReference = true
 refers v = false
 
 abbrev pub declare_faults : Faults → Bool → Bool → Value → Bool → Faults
-declare_faults f locked changed v has_members = record { no_parent = f.no_parent; read_only = (f.read_only || locked) && changed; not_array = f.not_array; out_of_range = f.out_of_range; not_a_name = is_too_long v; wrong_kind = f.wrong_kind || (refers v && has_members); }
+declare_faults f locked changed v below = record { no_parent = f.no_parent; read_only = (f.read_only || locked) && changed; not_array = f.not_array; out_of_range = f.out_of_range; not_a_name = is_too_long v; wrong_kind = f.wrong_kind || below; }
 
 abbrev pub declared_cell : {H : Type 0} → Cell H → Attrs → Value → Cell H
 declared_cell c attrs v = record { attrs = attrs; value = v; hooks = c.hooks; }
 
 abbrev pub declare_cell : {H : Type 0} → Rows H → Path → Attrs → Value → Result (Cell H) VarFault
-declare_cell rows path attrs v = unless (first_fault (declare_faults (path_faults rows path (length path.steps)) (standing rows path (length path.steps)).attrs.readonly (is_changed (cell_at path rows) attrs v) v (has_below path rows))) (Ok (declared_cell (standing rows path (length path.steps)) attrs v))
+declare_cell rows path attrs v = unless (first_fault (declare_faults (path_faults rows path (length path.steps)) (standing rows path (length path.steps)).attrs.readonly (is_changed (cell_at path rows) attrs v) v (refers v && has_below path rows))) (Ok (declared_cell (standing rows path (length path.steps)) attrs v))
 
 -- a row gets these attributes and this value, and keeps its hooks
 abbrev pub declare_of : {H : Type 0} → Store H → Path → Attrs → Value → Change H

@@ -1,4 +1,4 @@
-ghost use Rattle.std.specs.Prelude.{◌≡◌};
+ghost use Rattle.std.specs.Prelude.{◌≡◌, ◌&&◌};
 ghost use Rattle.std.specs.Option.{option_copied};
 ghost use Rattle.var_types.specs.Rows.{cell_at};
 ghost use Rattle.var_store.specs.Standing.{standing, Held};
@@ -121,12 +121,10 @@ pub fn declared<H: Drop>(rows: &RowList<H>, path: &Path, attrs: Attrs, value: Va
     ensures { Answers result (declare_cell rows.now path.now attrs value) }
 {
     let walked = walk(rows, path);
-    let locked = walked.faults.read_only || walked.standing.attrs.readonly;
-    let mut faults = walked.faults;
-    faults.read_only = locked && changed(rows.find_row(path), &attrs, &value);
-    faults.not_a_name = too_long(&value);
-    faults.wrong_kind = faults.wrong_kind || (refers(&value) && has_below_row(rows, path));
-    if let Some(fault) = faults.first() {
+    let locked = walked.standing.attrs.readonly;
+    let new = changed(rows.find_row(path), &attrs, &value);
+    let below = refers_above(rows, path, &value);
+    if let Some(fault) = faults_of(walked.faults, locked, new, &value, below).first() {
         return Err(fault);
     }
     let hooks = hooks_at(rows, path, path.steps.len())?;
@@ -135,6 +133,28 @@ pub fn declared<H: Drop>(rows: &RowList<H>, path: &Path, attrs: Attrs, value: Va
         value,
         hooks,
     })
+}
+
+/// The faults of a declaration, of which `walked` are those of the path, and `below` says that it
+/// is a reference with rows below it.
+fn faults_of(walked: Faults, locked: bool, changed: bool, value: &Value, below: bool) -> Faults
+    ensures { result ≡ declare_faults walked locked changed value.now below }
+{
+    Faults {
+        no_parent: walked.no_parent,
+        read_only: (walked.read_only || locked) && changed,
+        not_array: walked.not_array,
+        out_of_range: walked.out_of_range,
+        not_a_name: too_long(value),
+        wrong_kind: walked.wrong_kind || below,
+    }
+}
+
+/// Whether the value is a reference, and rows stand below that of the path.
+fn refers_above<H>(rows: &RowList<H>, path: &Path, value: &Value) -> bool
+    ensures { result ≡ (refers value.now && has_below path.now rows.now) }
+{
+    refers(value) && has_below_row(rows, path)
 }
 
 /// Whether rows stand below that of the path.

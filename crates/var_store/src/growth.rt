@@ -35,9 +35,11 @@ pub fn with_step(mut path: Path, step: Step) -> Result<Path, Memory>
 }
 
 /// The hooks of the row after the first `depth` steps of the path.
+#[tactic(auto, using(crate::proofs::Stands::standing_hooks))]
 pub fn hooks_at<H: Drop>(rows: &RowList<H>, path: &Path, depth: usize) -> Result<HookSet<H>, Memory>
     requires { depth ≤ length path.now.steps }
-    ensures { IfOk result (λ h. h ≡ hooks_of (cell_at (front depth path.now) rows.now)) }
+    ensures own { IfOk result (λ h. h ≡ hooks_of (cell_at (front depth path.now) rows.now)) }
+    ensures standing { IfOk result (λ h. h ≡ (standing rows.now path.now depth).hooks) }
 {
     match rows.find(path, depth) {
         Some(cell) => Ok(cell.hooks.copy()?),

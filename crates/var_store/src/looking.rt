@@ -1,7 +1,7 @@
-ghost use Rattle.std.specs.Prelude.{◌≡◌, ◌∷◌, [], not, IfOk};
+ghost use Rattle.std.specs.Prelude.{◌≡◌, ◌∷◌, ◌++◌, [], not, IfOk, OnOk};
 ghost use Rattle.std.specs.Fmt.{decimal};
 ghost use Rattle.std.specs.Option.{option_copied};
-ghost use Rattle.std.specs.List.{filter_map};
+ghost use Rattle.std.specs.List.{filter_map, cons_option};
 ghost use Rattle.var_types.specs.Rows.{cell_at};
 ghost use Rattle.var_store.specs.Calls.{AnswersBy, unlocked, step_at, as_subscript, as_member, subscripts_at, subscripts_of, has_no_members, is_no_compound, kind_faults, members_of, name_in, names_of};
 
@@ -58,14 +58,32 @@ fn member_name(alloc: Global, step: Option<&Step>) -> Result<Option<Name>, Memor
     }
 }
 
+fn copy_name(alloc: Global, name: Option<&Name>) -> Result<Option<Name>, Memory>
+    ensures { IfOk result (λ n. n ≡ option_copied name.entry) }
+{
+    match name {
+        Some(name) => Ok(Some(name.copy(alloc)?)),
+        None => Ok(None),
+    }
+}
+
+/// Adds an item to a list, where there is one.
+fn add<T: Drop>(list: &mut Vec<T>, item: Option<T>) -> Result<(), Memory>
+    ensures { OnOk result (list.new.items ≡ list.old.items ++ cons_option item []) }
+{
+    if let Some(item) = item {
+        list.push(item)?;
+    }
+    Ok(())
+}
+
 fn lists_subscripts<H>(alloc: Global, rows: &RowList<H>, path: &Path) -> Result<Vec<Text>, Memory>
     ensures { IfOk result (λ v. v.items ≡ filter_map (λ r. as_subscript (step_at path.now r.0)) rows.now) }
 {
     let mut texts = Vec::new(alloc);
     for row in rows.rows() {
-        if let Some(text) = subscript_text(alloc, step_between(path, &row.0))? {
-            texts.push(text)?;
-        }
+        let text = subscript_text(alloc, step_between(path, &row.0))?;
+        add(&mut texts, text)?;
     }
     Ok(texts)
 }
@@ -75,9 +93,8 @@ fn lists_members<H>(alloc: Global, rows: &RowList<H>, path: &Path) -> Result<Vec
 {
     let mut names = Vec::new(alloc);
     for row in rows.rows() {
-        if let Some(name) = member_name(alloc, step_between(path, &row.0))? {
-            names.push(name)?;
-        }
+        let name = member_name(alloc, step_between(path, &row.0))?;
+        add(&mut names, name)?;
     }
     Ok(names)
 }
@@ -132,16 +149,21 @@ pub fn members<H>(alloc: Global, rows: &RowList<H>, path: &Path) -> Result<Vec<N
     Ok(lists_members(alloc, rows, path)?)
 }
 
+/// The name of a path of the scope that has no steps.
+fn name_in(scope: u32, path: &Path) -> Option<&Name>
+    ensures { option_copied result ≡ name_in scope path.now }
+{
+    if path.scope == scope && path.steps.is_empty() { Some(&path.name) } else { None }
+}
+
 /// The names of a scope's rows whose path has no steps.
 pub fn names<H>(alloc: Global, rows: &RowList<H>, scope: u32) -> Result<Vec<Name>, Memory>
     ensures { IfOk result (λ v. v.items ≡ names_of rows.now scope) }
 {
     let mut names = Vec::new(alloc);
     for row in rows.rows() {
-        let path = &row.0;
-        if path.scope == scope && path.steps.is_empty() {
-            names.push(path.name.copy(alloc)?)?;
-        }
+        let name = copy_name(alloc, name_in(scope, &row.0))?;
+        add(&mut names, name)?;
     }
     Ok(names)
 }
