@@ -20,6 +20,14 @@ pub fn change_refused<H>(rows: &RowList<H>, path: &Path, locked: bool) -> Option
     walk(rows, path).faults.and(lock).first()
 }
 
+/// What refuses a change of what stands at a path.
+pub fn change_refused_at_end<H>(rows: &RowList<H>, path: &Path) -> Option<VarFault>
+    ensures { result ≡ change_fault rows.now path.now (standing rows.now path.now (length path.now.steps)).attrs.readonly }
+{
+    let stands = walk(rows, path).standing;
+    change_refused(rows, path, stands.attrs.readonly)
+}
+
 /// Whether the row of the path, or one below it, is read only.
 pub fn locked_below<H>(rows: &RowList<H>, path: &Path) -> bool
     ensures { result ≡ has_locked path.now rows.now }

@@ -71,6 +71,14 @@ impl<H> RowList<H> {
 }
 
 impl<H: Drop> RowList<H> {
+    /// A copy of each row.
+    pub fn copy(&self, alloc: Global) -> Result<RowList<H>, Memory>
+        ensures { IfOk result (λ l. l ≡ self.now) }
+    {
+        let rows = copy_rows(alloc, self.rows.as_slice())?;
+        Ok(RowList { rows })
+    }
+
     /// Writes each of the rows, one after the other, or none.
     pub fn write(&mut self, writes: Vec<(Path, Cell<H>)>) -> Result<(), Memory>
         ensures ok { OnOk result (self.new ≡ with_rows writes.items self.old) }
@@ -168,4 +176,16 @@ fn write_one<H: Drop>(rows: &mut Vec<(Path, Cell<H>)>, path: Path, cell: Cell<H>
             let _written = rows.insert(at, (path, cell));
         }
     }
+}
+
+fn copy_rows<H: Drop>(alloc: Global, rows: &[(Path, Cell<H>)]) -> Result<Vec<(Path, Cell<H>)>, Memory>
+    ensures { IfOk result (λ c. c.items ≡ rows.now) }
+{
+    let mut copies = Vec::new(alloc);
+    for row in rows {
+        let path = row.0.copy(alloc)?;
+        let cell = row.1.copy(alloc)?;
+        copies.push((path, cell))?;
+    }
+    Ok(copies)
 }

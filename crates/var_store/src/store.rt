@@ -1,19 +1,24 @@
-ghost use Rattle.std.specs.Prelude.{◌≡◌, ◌≤◌, ◌<◌, [], not, length, IfOk};
+ghost use Rattle.std.specs.Prelude.{◌≡◌, ◌≤◌, ◌<◌, ◌+◌, [], not, length, None, Ok, IfOk};
 ghost use Rattle.std.specs.Option.{option_copied};
 ghost use Rattle.var_types.specs.Rows.{cell_at};
 ghost use Rattle.var_store.specs.Standing.{standing, Held};
-ghost use Rattle.var_store.specs.Calls.{Changes, Answers, text_faults, takes_no_text, is_indexed, zeroed, or_itself, assign_cell, assign_at, put_of, append_of};
+ghost use Rattle.var_store.specs.Calls.{Changes, Answers, text_faults, takes_no_text, is_indexed, zeroed, or_itself, assign_cell, assign_at, put_of, append_of, declare_of, hook_of, unset_of, subscripts_of, members_of, names_of, popped, AnswersBy};
 
+use crate::changing::{change_refused, change_refused_at_end, hooked, locked_below, unhook};
+use crate::declaring::declared;
 use crate::faults::{Faults, VarFault};
 use crate::growth::{grow, revalued, with_step};
+use crate::looking::{members, names, subscripts};
 use crate::row_list::RowList;
 use crate::shaping::assigned;
 use crate::standing::Standing;
 use crate::walk::walk;
-use ksh_base::Memory;
+use ksh_base::{Memory, Name, Shared, Text};
 use std::alloc::Global;
 use std::marker::Model;
-use var_types::{Cell, Path, Step, Value};
+use std::sync::ledger::Ledger;
+use tree_steps::Steps;
+use var_types::{Attrs, Cell, HookKind, Path, Step, Value};
 
 /// The variables of a shell. `H` is the kind of a discipline's function.
 #[derive(Drop)]
@@ -32,7 +37,7 @@ impl<H> Model for VarStore<H> {
 }
 
 impl<H> VarStore<H> {
-    /// No rows, and scope 0 alone.
+    /// No rows, and scope 0 alone. Takes no memory.
     pub fn new(alloc: Global) -> VarStore<H>
         ensures { result ≡ ([], 0) }
     {
@@ -50,17 +55,109 @@ impl<H> VarStore<H> {
         self.rows.find_row(path)
     }
 
+    /// The subscripts one step below a path, in order; a text or a number has `0` alone.
+    pub fn subscripts(&self, path: &Path) -> Result<Vec<Text>, VarFault>
+        ensures { AnswersBy (λ v. v.items) result (subscripts_of self.now.0 path.now) }
+    {
+        subscripts(self.alloc, &self.rows, path)
+    }
+
+    /// The members one step below a compound or an instance, in order.
+    pub fn members(&self, path: &Path) -> Result<Vec<Name>, VarFault>
+        ensures { AnswersBy (λ v. v.items) result (members_of self.now.0 path.now) }
+    {
+        members(self.alloc, &self.rows, path)
+    }
+
+    /// The names of a scope's rows whose path has no steps, rising.
+    pub fn names(&self, scope: u32) -> Result<Vec<Name>, Memory>
+        ensures { IfOk result (λ v. v.items ≡ names_of self.now.0 scope) }
+    {
+        names(self.alloc, &self.rows, scope)
+    }
+
     /// The number of the highest scope.
     pub fn scope(&self) -> u32
         ensures { result ≡ self.now.1 }
     {
         self.scope
     }
+
+    /// Adds a scope above the highest, and answers its number. There are at most 16,384 scopes.
+    pub fn push_scope(&mut self) -> u32
+        requires { self.old.1 + 1 < 16384 }
+        ensures result { result ≡ self.old.1 + 1 }
+        ensures store { self.new ≡ (self.old.0, self.old.1 + 1) }
+    {
+        self.scope += 1;
+        self.scope
+    }
 }
 
 impl<H: Drop> VarStore<H> {
+    /// The same rows and scopes. Neither changes by what is done to the other.
+    pub fn fork(&self) -> Result<VarStore<H>, Memory>
+        ensures { IfOk result (λ s. s ≡ self.now) }
+    {
+        Ok(VarStore {
+            rows: self.rows.copy(self.alloc)?,
+            scope: self.scope,
+            alloc: self.alloc,
+        })
+    }
+
     /// Puts a text into a row, which its attributes shape.
-    pub fn put(&mut self, path: &Path, value: &[u8]) -> Result<(), VarFault>
+    pub fn put<L: Ledger>(&mut self, path: &Path, value: &[u8], _steps: &mut Steps<L>) -> Result<(), VarFault>
+        ensures { Changes result self.old self.new (put_of self.old path.now value.now) }
+    {
+        self.put_text(path, value)
+    }
+
+    /// Adds a text behind that of a row, or a number to its number.
+    pub fn append<L: Ledger>(&mut self, path: &Path, value: &[u8], _steps: &mut Steps<L>) -> Result<(), VarFault>
+        ensures { Changes result self.old self.new (append_of self.old path.now value.now) }
+    {
+        self.append_text(path, value)
+    }
+
+    /// Takes away a row and all rows below it.
+    pub fn unset<L: Ledger>(&mut self, path: &Path, _steps: &mut Steps<L>) -> Result<(), VarFault>
+        ensures { Changes result self.old self.new (unset_of self.old path.now) }
+    {
+        self.unset_row(path)
+    }
+
+    /// Gives a row these attributes and this value. It keeps its hooks.
+    pub fn declare<L: Ledger>(&mut self, path: &Path, attrs: Attrs, value: Value, _steps: &mut Steps<L>) -> Result<(), VarFault>
+        ensures { Changes result self.old self.new (declare_of self.old path.now attrs value) }
+    {
+        self.declare_row(path, attrs, value)
+    }
+
+    /// Gives a row a discipline's function, or takes one from it.
+    pub fn hook<L: Ledger>(
+        &mut self,
+        path: &Path,
+        kind: HookKind,
+        function: Option<Shared<H>>,
+        _steps: &mut Steps<L>,
+    ) -> Result<(), VarFault>
+        ensures { Changes result self.old self.new (hook_of self.old path.now kind function) }
+    {
+        self.hook_row(path, kind, function)
+    }
+
+    /// Takes away the highest scope and its rows.
+    pub fn pop_scope<L: Ledger>(&mut self, _steps: &mut Steps<L>) -> Result<(), VarFault>
+        requires { 0 < self.old.1 }
+        ensures { Changes result self.old self.new (Ok (popped self.old)) }
+    {
+        self.rows.remove_scope(self.scope);
+        self.scope -= 1;
+        Ok(())
+    }
+
+    pub(crate) fn put_text(&mut self, path: &Path, value: &[u8]) -> Result<(), VarFault>
         ensures { Changes result self.old self.new (put_of self.old path.now value.now) }
     {
         match zeroed(self.alloc, &self.rows, path)? {
@@ -69,8 +166,7 @@ impl<H: Drop> VarStore<H> {
         }
     }
 
-    /// Adds a text behind that of a row, or a number to its number.
-    pub fn append(&mut self, path: &Path, value: &[u8]) -> Result<(), VarFault>
+    pub(crate) fn append_text(&mut self, path: &Path, value: &[u8]) -> Result<(), VarFault>
         ensures { Changes result self.old self.new (append_of self.old path.now value.now) }
     {
         match zeroed(self.alloc, &self.rows, path)? {
@@ -84,6 +180,51 @@ impl<H: Drop> VarStore<H> {
     {
         let cell = assigned_at(self.alloc, &self.rows, path, text, append)?;
         grow(self.alloc, &mut self.rows, path, cell)?;
+        Ok(())
+    }
+
+    pub(crate) fn declare_row(&mut self, path: &Path, attrs: Attrs, value: Value) -> Result<(), VarFault>
+        ensures { Changes result self.old self.new (declare_of self.old path.now attrs value) }
+    {
+        let cell = declared(&self.rows, path, attrs, value)?;
+        grow(self.alloc, &mut self.rows, path, cell)?;
+        Ok(())
+    }
+
+    pub(crate) fn unset_row(&mut self, path: &Path) -> Result<(), VarFault>
+        ensures { Changes result self.old self.new (unset_of self.old path.now) }
+    {
+        if self.rows.find_row(path).is_none() {
+            return Ok(());
+        }
+        let locked = locked_below(&self.rows, path);
+        if let Some(fault) = change_refused(&self.rows, path, locked) {
+            return Err(fault);
+        }
+        self.rows.remove_below(path);
+        Ok(())
+    }
+
+    pub(crate) fn hook_row(&mut self, path: &Path, kind: HookKind, function: Option<Shared<H>>) -> Result<(), VarFault>
+        ensures { Changes result self.old self.new (hook_of self.old path.now kind function) }
+    {
+        match function {
+            Some(function) => {
+                let cell = hooked(self.alloc, &self.rows, path, kind, function)?;
+                grow(self.alloc, &mut self.rows, path, cell)?;
+                Ok(())
+            }
+            None => self.unhook_row(path, kind),
+        }
+    }
+
+    fn unhook_row(&mut self, path: &Path, kind: HookKind) -> Result<(), VarFault>
+        ensures { Changes result self.old self.new (hook_of self.old path.now kind None) }
+    {
+        if let Some(fault) = change_refused_at_end(&self.rows, path) {
+            return Err(fault);
+        }
+        unhook(self.alloc, &mut self.rows, path, kind)?;
         Ok(())
     }
 }
