@@ -14,7 +14,9 @@ use Rattle.var_types.specs.Rows.{Row, Rows, IsRising, cell_at}
 use Rattle.var_types.specs.Totals.{path_total}
 use Rattle.var_store.specs.Fronts.{front, IsPlace, Places}
 use Rattle.var_store.specs.Changes.{with_row, without, without_scope}
-use Rattle.var_store.proofs.Sorted.{found_there, put_there, put_between, rising_put, rising_filter}
+use Rattle.var_types.specs.declared.value.Value.{Value}
+use Rattle.var_store.specs.Growth.{with_value}
+use Rattle.var_store.proofs.Sorted.{keys_set, found_there, put_there, put_between, rising_put, rising_filter}
 
 pub found : {H : Type 0} (rows : Rows H) (path : Path) (i : ℕ) (row : Row H) → (i < length rows) × IsPlace rows path i Equal → row ≡ get_or rows i row → Some row.1 ≡ cell_at path rows
 found rows path i row p at =
@@ -48,3 +50,12 @@ rising_none (r ∷ rows) h = cc
 
 pub front_whole : (path : Path) → front (length path.steps) path ≡ path
 front_whole path = rw (take-length path.steps) refl
+
+pub set_found : {H : Type 0} (rows : Rows H) (path : Path) (i : ℕ) (row : Row H) (c : Cell H) (v : Value) → (i < length rows) × IsPlace rows path i Equal → row ≡ get_or rows i row → Some c ≡ cell_at path rows → slice_set rows i (row.0, with_value row.1 v) ≡ with_row path (with_value c v) rows
+set_found rows path i row c v p at h =
+    let same : Some row.1 ≡ Some c = found rows path i row p at ∙ sym h in
+    let is : row.1 ≡ c = cc in
+    put_found rows path i row (with_value row.1 v) p at ∙ ap (λ d. with_row path (with_value d v) rows) is
+
+pub rising_set : {H : Type 0} (rows : Rows H) (i : ℕ) (row : Row H) (cell : Cell H) → i < length rows → row ≡ get_or rows i row → IsRising rows → IsRising (slice_set rows i (row.0, cell))
+rising_set rows i row cell l at s = rw (keys_set cell rows i row (slice_get_read rows (length rows) i row refl l at)) s

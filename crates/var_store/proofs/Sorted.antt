@@ -111,6 +111,11 @@ all_weaker : {K : Type 0} {P Q : K → Type 0} → ((x : K) → P x → Q x) →
 all_weaker f [] a = tt
 all_weaker f (x ∷ xs) a = (f x a.0, all_weaker f xs a.1)
 
+pub keys_set : {K X : Type 0} (v : X) (es : List (K × X)) (i : ℕ) (e : K × X) → slice_get es i ≡ Some e → keys_of (slice_set es i (e.0, v)) ≡ keys_of es
+keys_set v [] i e h = cc
+keys_set {K} {X} v (x ∷ es) zero e h = let same : x ≡ e = cc in ap (λ (y : K × X). y.0 ∷ keys_of es) (sym same)
+keys_set v (x ∷ es) (suc i) e h = ap (λ ks. x.0 ∷ ks) (keys_set v es i e h)
+
 keys_filter : {K X : Type 0} (p : K → Bool) (es : List (K × X)) → keys_of (filter (λ e. p e.0) es) ≡ filter p (keys_of es)
 keys_filter p [] = refl
 keys_filter p (e ∷ es) = elim (cases_Bool (p e.0)) [ inl h ↦ rw h (ap (λ ks. e.0 ∷ ks) (keys_filter p es)) | inr h ↦ rw h (keys_filter p es) ]

@@ -85,6 +85,14 @@ zeroed_by (suc n) rows path = if is_indexed (cell_at path rows) then zeroed_by n
 abbrev pub zeroed : {H : Type 0} → Rows H → Path → Path
 zeroed rows path = zeroed_by (length rows) rows path
 
+abbrev pub or_wrong : Option Value → Result Value VarFault
+or_wrong None = Err fault.WrongKind
+or_wrong (Some v) = Ok v
+
+-- the value that a text makes of that of a cell
+abbrev pub cell_value : {H : Type 0} → Bool → Cell H → List ℕ → Result Value VarFault
+cell_value append c text = unless (first_fault (text_faults c.attrs.readonly c.value)) (or_wrong (assigned append c.attrs c.value text))
+
 abbrev pub valued : {H : Type 0} → Cell H → Option Value → Result (Cell H) VarFault
 valued c None = Err fault.WrongKind
 valued c (Some v) = Ok (with_value c v)

@@ -3,6 +3,5 @@ pub mod Changes
 pub mod Faults
 pub mod Fronts
 pub mod Growth
-pub mod Numerals
 pub mod Shaping
 pub mod Standing

@@ -1,25 +1,11 @@
--- The value that a text becomes in a row, and the text that a value shows.
+-- The value that a row has after a text was put into it or added behind it.
 use Rattle.std.specs.Prelude.{◌≡◌, ℕ, ◌++◌, Bool, true, false, List, [], Option, Some, None, ℤ}
 use Rattle.std.specs.Option.{option_map}
-use Rattle.std.specs.Fmt.{signed_decimal}
 use Rattle.std.specs.Int.{int_wrapping_add, w64}
 use Rattle.var_types.specs.declared.value.Value.{Value}
-use Rattle.var_types.specs.declared.value.Value.TheVariants.{Plain, Number}
+use Rattle.var_types.specs.declared.value.Value.TheVariants.{Number}
 use Rattle.var_types.specs.declared.attrs.Attrs.{Attrs}
-use Rattle.var_store.specs.Numerals.{number_of}
-
-abbrev pub shape_by : Option ℕ → List ℕ → Option Value
-shape_by None bytes = Some (Plain bytes)
-shape_by (Some base) bytes = option_map Number (number_of bytes)
-
--- the value of a text, or nothing where it is no number and has to be one
-abbrev pub shape_of : Attrs → List ℕ → Option Value
-shape_of attrs bytes = shape_by attrs.integer bytes
-
-abbrev pub text_of : Value → Attrs → List ℕ
-text_of (Plain t) attrs = t
-text_of (Number n) attrs = signed_decimal n
-text_of v attrs = []
+use Rattle.ksh_attrs.specs.Shapes.{shape_of, text_of}
 
 -- a number that is added to a value; what isn't a number counts as 0
 abbrev pub added : Value → Value → Value

@@ -6,7 +6,6 @@ mod declaring;
 mod faults;
 mod growth;
 mod looking;
-mod numeral;
 mod row_list;
 mod shaping;
 mod standing;

@@ -1,16 +1,19 @@
-ghost use Rattle.std.specs.Prelude.{◌≡◌, [], ◌≤◌, ◌<◌, ◌+◌, length, IfOk, OnOk, OnErr};
+ghost use Rattle.std.specs.Prelude.{◌≡◌, [], ◌≤◌, ◌<◌, ◌+◌, length, Some, Ok, IfOk, OnOk, OnErr};
 ghost use Rattle.std.specs.Vec.{vec_len, vec_capacity};
 ghost use Rattle.std.specs.Option.{option_copied};
 ghost use Rattle.var_types.specs.Rows.{IsRising, cell_at};
 ghost use Rattle.var_types.specs.Order.{path_cmp};
 ghost use Rattle.var_store.specs.Fronts.{front, Places};
 ghost use Rattle.var_store.specs.Changes.{with_row, with_rows, without, without_scope};
+ghost use Rattle.var_store.specs.Growth.{with_value};
+ghost use Rattle.var_types.specs.declared.path.Path.{Path};
+ghost use Rattle.var_types.specs.declared.cell.Cell.{Cell};
 
 use ksh_base::Memory;
 use std::alloc::Global;
 use std::cmp::Ordering;
 use std::marker::Model;
-use var_types::{Cell, Path, is_prefix};
+use var_types::{Cell, Path, Value, is_prefix};
 
 /// Rows in a vector, rising by path, each path once.
 #[derive(Drop)]
@@ -52,6 +55,14 @@ impl<H> RowList<H> {
         place_of(self.rows.as_slice(), path)
     }
 
+    /// The cell of the row there, which is the path's.
+    pub fn cell(&self, path: &Path, at: usize) -> &Cell<H>
+        requires { Places self.now path.now (Ok at) }
+        ensures { Some result.now ≡ cell_at path.now self.now }
+    {
+        cell_there(self.rows.as_slice(), path, at)
+    }
+
     /// The cell of the row at the first `depth` steps of the path.
     pub fn find(&self, path: &Path, depth: usize) -> Option<&Cell<H>>
         requires { depth ≤ length path.now.steps }
@@ -77,6 +88,14 @@ impl<H: Drop> RowList<H> {
     {
         let rows = copy_rows(alloc, self.rows.as_slice())?;
         Ok(RowList { rows })
+    }
+
+    /// Gives the row there another value.
+    pub fn set_value(&mut self, at: usize, value: Value)
+        requires { at < length self.old }
+        ensures { (p : Path) (c : Cell H) → Places self.old p (Ok at) → Some c ≡ cell_at p self.old → self.new ≡ with_row p (with_value c value) self.old }
+    {
+        set_value_there(&mut self.rows, at, value);
     }
 
     /// Writes each of the rows, one after the other, or none.
@@ -159,6 +178,24 @@ fn cell_of<'a, H>(rows: &'a [(Path, Cell<H>)], path: &Path, depth: usize) -> Opt
         Ok(at) => Some(&rows[at].1),
         Err(_) => None,
     }
+}
+
+/// The cell of the row there, which is the path's.
+fn cell_there<'a, H>(rows: &'a [(Path, Cell<H>)], _path: &Path, at: usize) -> &'a Cell<H>
+    requires { Places rows.now _path.now (Ok at) }
+    ensures { Some result.now ≡ cell_at _path.now rows.now }
+{
+    &rows[at].1
+}
+
+/// Gives the row there another value.
+fn set_value_there<H: Drop>(rows: &mut Vec<(Path, Cell<H>)>, at: usize, value: Value)
+    requires within { at < length rows.old.items }
+    requires rising { IsRising rows.old.items }
+    ensures value { (p : Path) (c : Cell H) → Places rows.old.items p (Ok at) → Some c ≡ cell_at p rows.old.items → rows.new.items ≡ with_row p (with_value c value) rows.old.items }
+    ensures rising { IsRising rows.new.items }
+{
+    rows[at].1.value = value;
 }
 
 /// Writes a row, where there is room for one.

@@ -1,38 +1,32 @@
 ghost use Rattle.std.specs.Prelude.{◌≡◌, IfOk};
 ghost use Rattle.var_store.specs.Standing.{Held};
-ghost use Rattle.var_store.specs.Shaping.{shape_of, text_of, added, assigned, appended_by};
+ghost use Rattle.ksh_attrs.specs.Shapes.{shape_of, text_of};
+ghost use Rattle.var_store.specs.Shaping.{added, assigned, appended_by};
 
-use crate::numeral::read_number;
-use itoa::Buffer;
+use ksh_attrs::{AttrFault, shape, show};
 use ksh_base::{Memory, Text};
 use std::alloc::Global;
 use var_types::{Attrs, Value};
 
 /// The value that a text becomes in a row of those attributes; nothing where it is no number and
 /// has to be one.
-fn shape(alloc: Global, attrs: &Attrs, bytes: &[u8]) -> Result<Option<Value>, Memory>
+fn shaped(alloc: Global, attrs: &Attrs, bytes: &[u8]) -> Result<Option<Value>, Memory>
     ensures { IfOk result (λ v. v ≡ shape_of attrs.now bytes.now) }
 {
-    match attrs.integer {
-        None => Ok(Some(Value::Plain(Text::of(alloc, bytes)?))),
-        Some(_) => match read_number(bytes) {
-            Some(integer) => Ok(Some(Value::Number(integer))),
-            None => Ok(None),
-        },
+    match shape(alloc, attrs, bytes) {
+        Ok(value) => Ok(Some(value)),
+        Err(AttrFault::NotANumber) => Ok(None),
+        Err(AttrFault::Memory) => Err(Memory),
     }
 }
 
-/// The text that a value shows.
-fn show(alloc: Global, value: Option<&Value>, attrs: &Attrs) -> Result<Text, Memory>
+/// The text that a value shows, which may be unset.
+fn shown(alloc: Global, value: Option<&Value>, attrs: &Attrs) -> Result<Text, Memory>
     ensures { IfOk result (λ t. t ≡ text_of (Held value.entry) attrs.now) }
 {
     match value {
-        Some(Value::Plain(text)) => text.copy(alloc),
-        Some(Value::Number(integer)) => {
-            let mut buffer = Buffer::new();
-            Text::of(alloc, buffer.format(*integer).as_bytes())
-        }
-        _ => Ok(Text::empty(alloc)),
+        Some(value) => show(alloc, value, attrs),
+        None => show(alloc, &Value::Unset, attrs),
     }
 }
 
@@ -52,11 +46,11 @@ fn appended(alloc: Global, attrs: &Attrs, value: Option<&Value>, text: &[u8]) ->
 {
     match attrs.integer {
         None => {
-            let mut whole = show(alloc, value, attrs)?;
+            let mut whole = shown(alloc, value, attrs)?;
             whole.append(text)?;
-            shape(alloc, attrs, whole.bytes())
+            shaped(alloc, attrs, whole.bytes())
         }
-        Some(_) => match shape(alloc, attrs, text)? {
+        Some(_) => match shaped(alloc, attrs, text)? {
             Some(more) => Ok(Some(sum(value, more))),
             None => Ok(None),
         },
@@ -70,5 +64,5 @@ pub fn assigned(alloc: Global, append: bool, attrs: &Attrs, value: Option<&Value
     if append {
         return appended(alloc, attrs, value, text);
     }
-    shape(alloc, attrs, text)
+    shaped(alloc, attrs, text)
 }

@@ -69,7 +69,7 @@ impl<'a> Standing<'a> {
         }
     }
 
-    fn of<H>(cell: &'a Cell<H>) -> Standing<'a>
+    pub fn of<H>(cell: &'a Cell<H>) -> Standing<'a>
         ensures { Stands result cell.now }
     {
         Standing {

@@ -1,8 +1,9 @@
-ghost use Rattle.std.specs.Prelude.{◌≡◌, ◌≤◌, ◌<◌, ◌+◌, [], not, length, None, Ok, IfOk};
+ghost use Rattle.std.specs.Prelude.{◌≡◌, ◌≤◌, ◌<◌, ◌+◌, [], not, false, length, None, Ok, IfOk, IfSome, OnSome};
 ghost use Rattle.std.specs.Option.{option_copied};
 ghost use Rattle.var_types.specs.Rows.{cell_at};
+ghost use Rattle.var_store.specs.Fronts.{Places};
 ghost use Rattle.var_store.specs.Standing.{standing, Held};
-ghost use Rattle.var_store.specs.Calls.{Changes, Answers, text_faults, takes_no_text, is_indexed, zeroed, or_itself, assign_cell, assign_at, put_of, append_of, declare_of, hook_of, unset_of, subscripts_of, members_of, names_of, popped, AnswersBy};
+ghost use Rattle.var_store.specs.Calls.{Changes, Answers, text_faults, takes_no_text, cell_value, is_indexed, zeroed, or_itself, assign_cell, assign_at, put_of, append_of, declare_of, hook_of, unset_of, subscripts_of, members_of, names_of, popped, AnswersBy};
 
 use crate::changing::{change_refused, change_refused_at_end, hooked, locked_below, unhook};
 use crate::declaring::declared;
@@ -18,7 +19,7 @@ use std::alloc::Global;
 use std::marker::Model;
 use std::sync::ledger::Ledger;
 use tree_steps::Steps;
-use var_types::{Attrs, Cell, HookKind, Path, Step, Value};
+use var_types::{Attrs, Cell, Cells, HookKind, Path, Step, Value};
 
 /// The variables of a shell. `H` is the kind of a discipline's function.
 #[derive(Drop)]
@@ -37,15 +38,15 @@ impl<H> Model for VarStore<H> {
 }
 
 impl<H> VarStore<H> {
-    /// No rows, and scope 0 alone. Takes no memory.
-    pub fn new(alloc: Global) -> VarStore<H>
-        ensures { result ≡ ([], 0) }
+    /// No rows, and scope 0 alone.
+    pub fn new(alloc: Global) -> Result<VarStore<H>, Memory>
+        ensures { IfOk result (λ s. s ≡ ([], 0)) }
     {
-        VarStore {
+        Ok(VarStore {
             rows: RowList::new(alloc),
             scope: 0,
             alloc,
-        }
+        })
     }
 
     /// The cell of the row of that path, or nothing where there is none.
@@ -160,18 +161,55 @@ impl<H: Drop> VarStore<H> {
     pub(crate) fn put_text(&mut self, path: &Path, value: &[u8]) -> Result<(), VarFault>
         ensures { Changes result self.old self.new (put_of self.old path.now value.now) }
     {
-        match zeroed(self.alloc, &self.rows, path)? {
-            Some(zero) => self.assign(&zero, value, false),
-            None => self.assign(path, value, false),
-        }
+        self.assign_zeroed(path, value, false)
     }
 
     pub(crate) fn append_text(&mut self, path: &Path, value: &[u8]) -> Result<(), VarFault>
         ensures { Changes result self.old self.new (append_of self.old path.now value.now) }
     {
+        self.assign_zeroed(path, value, true)
+    }
+
+    /// Assigns to element 0 where the row is an indexed array. The row of a name that is there is
+    /// looked for once.
+    fn assign_zeroed(&mut self, path: &Path, text: &[u8], append: bool) -> Result<(), VarFault>
+        ensures { Changes result self.old self.new (assign_at append self.old (zeroed self.old.0 path.now) text.now) }
+    {
+        if let Some(at) = self.single_name(path) {
+            return self.assign_name(path, at, text, append);
+        }
         match zeroed(self.alloc, &self.rows, path)? {
-            Some(zero) => self.assign(&zero, value, true),
-            None => self.assign(path, value, true),
+            Some(zero) => self.assign(&zero, text, append),
+            None => self.assign(path, text, append),
+        }
+    }
+
+    /// Where the row of a path without steps is, if it is there and no indexed array.
+    fn single_name(&self, path: &Path) -> Option<usize>
+        ensures place { IfSome result (λ at. Places self.now.0 path.now (Ok at)) }
+        ensures name { OnSome result (path.now.steps ≡ []) }
+        ensures single { OnSome result (is_indexed (cell_at path.now self.now.0) ≡ false) }
+    {
+        if !path.steps.is_empty() {
+            return None;
+        }
+        let at = self.rows.place(path).ok()?;
+        let cell = self.rows.cell(path, at);
+        if is_array(Some(cell)) { None } else { Some(at) }
+    }
+
+    /// Assigns to the row there, whose path has no steps.
+    fn assign_name(&mut self, path: &Path, at: usize, text: &[u8], append: bool) -> Result<(), VarFault>
+        requires place { Places self.old.0 path.now (Ok at) }
+        requires name { path.now.steps ≡ [] }
+        ensures { Changes result self.old self.new (assign_at append self.old path.now text.now) }
+    {
+        match value_for(self.alloc, self.rows.cell(path, at), text, append) {
+            Ok(value) => {
+                self.rows.set_value(at, value);
+                Ok(())
+            }
+            Err(fault) => Err(fault),
         }
     }
 
@@ -229,6 +267,18 @@ impl<H: Drop> VarStore<H> {
     }
 }
 
+impl<H> Cells<H> for VarStore<H> {
+    ghost rows = { λ s. s.0 };
+
+    fn cell(&self, path: &Path) -> Option<&Cell<H>> {
+        self.get(path)
+    }
+
+    fn count(&self) -> usize {
+        self.rows.rows().len()
+    }
+}
+
 /// The path of element 0 where the row is an indexed array, and so on; nothing where it is none.
 fn zeroed<H>(alloc: Global, rows: &RowList<H>, path: &Path) -> Result<Option<Path>, Memory>
     ensures { IfOk result (λ p. or_itself p path.now ≡ zeroed rows.now path.now) }
@@ -274,6 +324,20 @@ fn faults_at(stands: Standing<'_>) -> Faults
     faults.read_only = stands.attrs.readonly;
     faults.wrong_kind = !takes_text(stands.value);
     faults
+}
+
+/// The value that a text makes of that of a cell.
+fn value_for<H>(alloc: Global, cell: &Cell<H>, text: &[u8], append: bool) -> Result<Value, VarFault>
+    ensures { Answers result (cell_value append cell.now text.now) }
+{
+    let stands = Standing::of(cell);
+    if let Some(fault) = faults_at(stands).first() {
+        return Err(fault);
+    }
+    match assigned(alloc, append, &stands.attrs, stands.value, text)? {
+        Some(value) => Ok(value),
+        None => Err(VarFault::WrongKind),
+    }
 }
 
 /// The cell that a text makes of what stands at a path.

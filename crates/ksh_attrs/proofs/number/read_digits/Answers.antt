@@ -1,7 +1,7 @@
 use Rattle.std.proofs.Common.{◌+◌, ◌*◌, ◌∙◌, sym, ap, arith, drop}
 use Rattle.std.proofs.lemmas.Grind.{common_steps}
 use Rattle.ksh_base.proofs.Digits.{behind, behind_next, digits_next, le_behind}
-use Rattle.var_store.proofs.numeral.read_digits.Goals as goal
+use Rattle.ksh_attrs.proofs.number.read_digits.Goals as goal
 
 pub returns-then-value-most : goal.returns-then-value-most
 returns-then-value-most c =

@@ -3,7 +3,7 @@ use Rattle.std.specs.Char.{is_ascii_digit}
 use Rattle.std.specs.List.{list_all}
 use Rattle.ksh_base.specs.Words.{written}
 use Rattle.ksh_base.proofs.Digits.{behind}
-use Rattle.var_store.proofs.numeral.read_digits.Given as goal
+use Rattle.ksh_attrs.proofs.number.read_digits.Given as goal
 
 -- the digits so far are one number, and those that are left are written behind it
 abbrev pub invariant-loop-digit : goal.invariant-loop-digit
