@@ -50,21 +50,25 @@ module _ {K X : Type 0} {R : K → K → Ordering} (o : IsTotalOrder R) (k : K) 
 
   -- those up to one that is before k are
   pub before_more : (i : ℕ) (e : K × X) → slice_get es i ≡ Some e → R e.0 k ≡ Less → (j : ℕ) (f : K × X) → j < i + 1 → slice_get es j ≡ Some f → R k f.0 ≡ Greater
-  before_more i e at b j f l h = elim (by_order j i)
-      [ inl m ↦ before_one i e at (inl b) j f m h
-      | inr r ↦ elim r
-          [ inl n ↦ (let same : e ≡ f = same_entry es i e f at (rw (sym n) h) in rw (sym same) (o.antisymm k e.0 ∙ ap ordering_reverse b))
-          | inr m ↦ absurd (omega arith) ] ]
+  before_more i e at b j f l h = elim (by_order j i) [
+    | inl m ↦ before_one i e at (inl b) j f m h
+    | inr r ↦ elim r [
+      | inl n ↦ (let same : e ≡ f = same_entry es i e f at (rw (sym n) h) in rw (sym same) (o.antisymm k e.0 ∙ ap ordering_reverse b))
+      | inr m ↦ absurd (omega arith)
+    ]
+  ]
 
   -- those from one that is behind k on are
   pub behind_more : (i : ℕ) (e : K × X) → slice_get es i ≡ Some e → R e.0 k ≡ Greater → (j : ℕ) (f : K × X) → i ≤ j → slice_get es j ≡ Some f → R k f.0 ≡ Less
   behind_more i e at b j f l h =
       let after : R k e.0 ≡ Less = o.antisymm k e.0 ∙ ap ordering_reverse b in
-      elim (by_order i j)
-        [ inl m ↦ o.trans k e.0 f.0 after (rising i j e f m at h)
-        | inr r ↦ elim r
-            [ inl n ↦ (let same : e ≡ f = same_entry es i e f at (rw n h) in rw (sym same) after)
-            | inr m ↦ absurd (omega arith) ] ]
+      elim (by_order i j) [
+        | inl m ↦ o.trans k e.0 f.0 after (rising i j e f m at h)
+        | inr r ↦ elim r [
+          | inl n ↦ (let same : e ≡ f = same_entry es i e f at (rw n h) in rw (sym same) after)
+          | inr m ↦ absurd (omega arith)
+        ]
+      ]
 
   pub there_one : (i : ℕ) (e : K × X) (r : Ordering) → slice_get es i ≡ Some e → R e.0 k ≡ r → (f : K × X) → slice_get es i ≡ Some f → R k f.0 ≡ ordering_reverse r
   there_one i e r at b f h = let same : e ≡ f = same_entry es i e f at h in rw (sym same) (o.antisymm k e.0 ∙ ap ordering_reverse b)

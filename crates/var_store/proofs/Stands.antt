@@ -48,8 +48,8 @@ standing_hooks rows path zero = hooks_by (cell_at (front 0 path) rows) blank ref
 standing_hooks rows path (suc k) = hooks_by (cell_at (front (suc k) path) rows) (after_step (standing rows path k) (slice_get path.steps k)) (after_step_hooks (standing rows path k) (slice_get path.steps k))
 
 pub revalues : {H : Type 0} (rows : Rows H) (path : Path) (k : ℕ) (s : Standing) (v : Value) (hooks : HookSet H) → hooks ≡ hooks_of (cell_at (front k path) rows) → Stands s (standing rows path k)
-    → (let c : Cell H = record { attrs = s.attrs; value = v; hooks = hooks; } in c ≡ with_value (standing rows path k) v)
-revalues {H} rows path k s v hooks h stands = 
+    → (let c : Cell H = record { attrs = s.attrs; value = v; hooks = hooks } in c ≡ with_value (standing rows path k) v)
+revalues {H} rows path k s v hooks h stands =
     let e : hooks ≡ (standing rows path k).hooks = h ∙ sym (standing_hooks rows path k) in
     rw (stands.0, e) refl
 

@@ -30,10 +30,10 @@ zeroed_single rows path h = zeroed_stop rows path (length rows) h
 -- ---- a path without steps
 -- the path of a name
 abbrev pub bare : ℕ → List ℕ → Path
-bare scope name = record { scope = scope; name = name; steps = []; }
+bare scope name = record { scope = scope; name = name; steps = [] }
 
 bare_is : (path : Path) → path.steps ≡ [] → path ≡ bare path.scope path.name
-bare_is path h = ap (λ s. let p : Path = record { scope = path.scope; name = path.name; steps = s; } in p) h
+bare_is path h = ap (λ s. let p : Path = record { scope = path.scope; name = path.name; steps = s } in p) h
 
 -- the change where nothing is made on the way
 abbrev pub named : {H : Type 0} → Store H → Path → Cell H → Result Value VarFault → Change H
@@ -53,7 +53,7 @@ pub name_assigned : {H : Type 0} (append : Bool) (store : Store H) (path : Path)
 name_assigned append store path text c s h =
     let at : Some c ≡ cell_at (bare path.scope path.name) store.0 = h ∙ ap (λ p. cell_at p store.0) (bare_is path s) in
     ap (λ p. assign_at append store p text) (bare_is path s) ∙ ap (placed store (bare path.scope path.name)) (bare_cell append store.0 path.scope path.name text c at)
-      ∙ by_value store path.scope path.name c (first_fault (text_faults c.attrs.readonly c.value)) (assigned append c.attrs c.value text) ∙ ap (λ p. named store p c (cell_value append c text)) (sym (bare_is path s))
+    ∙ by_value store path.scope path.name c (first_fault (text_faults c.attrs.readonly c.value)) (assigned append c.attrs c.value text) ∙ ap (λ p. named store p c (cell_value append c text)) (sym (bare_is path s))
 
 -- a refused value refuses the change
 refused : {H : Type 0} (store : Store H) (path : Path) (c : Cell H) (e : VarFault) (answer : Result Value VarFault) → (let r : Result Value VarFault = Err e in Answers r answer) → (let r : Result (Unit {0}) VarFault = Err e in Changes r store store (named store path c answer))

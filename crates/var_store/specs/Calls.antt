@@ -67,7 +67,7 @@ takes_no_text v = false
 
 -- the faults of the row itself
 abbrev pub text_faults : Bool → Value → Faults
-text_faults locked v = record { no_parent = false; read_only = locked; not_array = false; out_of_range = false; not_a_name = false; wrong_kind = takes_no_text v; }
+text_faults locked v = record { no_parent = false; read_only = locked; not_array = false; out_of_range = false; not_a_name = false; wrong_kind = takes_no_text v }
 
 abbrev pub indexed : Value → Bool
 indexed Indexed = true
@@ -162,10 +162,10 @@ refers NoReference = true
 refers v = false
 
 abbrev pub declare_faults : Faults → Bool → Bool → Value → Bool → Faults
-declare_faults f locked changed v below = record { no_parent = f.no_parent; read_only = (f.read_only || locked) && changed; not_array = f.not_array; out_of_range = f.out_of_range; not_a_name = is_too_long v; wrong_kind = f.wrong_kind || below; }
+declare_faults f locked changed v below = record { no_parent = f.no_parent; read_only = (f.read_only || locked) && changed; not_array = f.not_array; out_of_range = f.out_of_range; not_a_name = is_too_long v; wrong_kind = f.wrong_kind || below }
 
 abbrev pub declared_cell : {H : Type 0} → Cell H → Attrs → Value → Cell H
-declared_cell c attrs v = record { attrs = attrs; value = v; hooks = c.hooks; }
+declared_cell c attrs v = record { attrs = attrs; value = v; hooks = c.hooks }
 
 abbrev pub declare_cell : {H : Type 0} → Rows H → Path → Attrs → Value → Result (Cell H) VarFault
 declare_cell rows path attrs v = unless (first_fault (declare_faults (path_faults rows path (length path.steps)) (standing rows path (length path.steps)).attrs.readonly (is_changed (cell_at path rows) attrs v) v (refers v && has_below path rows))) (Ok (declared_cell (standing rows path (length path.steps)) attrs v))
@@ -176,16 +176,16 @@ declare_of store path attrs v = placed store path (declare_cell store.0 path att
 
 -- ---- hook
 abbrev pub with_hook : {H : Type 0} → HookSet H → HookKind → Option H → HookSet H
-with_hook h Get f = record { get = f; set = h.set; append = h.append; unset = h.unset; }
-with_hook h Set f = record { get = h.get; set = f; append = h.append; unset = h.unset; }
-with_hook h Append f = record { get = h.get; set = h.set; append = f; unset = h.unset; }
-with_hook h kind.Unset f = record { get = h.get; set = h.set; append = h.append; unset = f; }
+with_hook h Get f = record { get = f; set = h.set; append = h.append; unset = h.unset }
+with_hook h Set f = record { get = h.get; set = f; append = h.append; unset = h.unset }
+with_hook h Append f = record { get = h.get; set = h.set; append = f; unset = h.unset }
+with_hook h kind.Unset f = record { get = h.get; set = h.set; append = h.append; unset = f }
 
 abbrev pub hooked : {H : Type 0} → Cell H → HookKind → Option H → Cell H
-hooked c k f = record { attrs = c.attrs; value = c.value; hooks = with_hook c.hooks k f; }
+hooked c k f = record { attrs = c.attrs; value = c.value; hooks = with_hook c.hooks k f }
 
 abbrev pub lock_faults : Bool → Faults
-lock_faults locked = record { no_parent = false; read_only = locked; not_array = false; out_of_range = false; not_a_name = false; wrong_kind = false; }
+lock_faults locked = record { no_parent = false; read_only = locked; not_array = false; out_of_range = false; not_a_name = false; wrong_kind = false }
 
 -- what refuses a change of a row
 abbrev pub change_fault : {H : Type 0} → Rows H → Path → Bool → Option VarFault
@@ -215,7 +215,7 @@ unset_of store path = unset_by store path (cell_at path store.0)
 -- ---- looking
 -- a row that is only looked at may be locked
 abbrev pub unlocked : Faults → Faults
-unlocked f = record { no_parent = f.no_parent; read_only = false; not_array = f.not_array; out_of_range = f.out_of_range; not_a_name = f.not_a_name; wrong_kind = f.wrong_kind; }
+unlocked f = record { no_parent = f.no_parent; read_only = false; not_array = f.not_array; out_of_range = f.out_of_range; not_a_name = f.not_a_name; wrong_kind = f.wrong_kind }
 
 -- one step further
 abbrev pub is_child : Path → Path → Bool
@@ -251,7 +251,7 @@ is_no_compound None = false
 is_no_compound (Some c) = has_no_members c.value
 
 abbrev pub kind_faults : Bool → Faults
-kind_faults wrong = record { no_parent = false; read_only = false; not_array = false; out_of_range = false; not_a_name = false; wrong_kind = wrong; }
+kind_faults wrong = record { no_parent = false; read_only = false; not_array = false; out_of_range = false; not_a_name = false; wrong_kind = wrong }
 
 -- the members of the rows one step below
 abbrev pub members_of : {H : Type 0} → Rows H → Path → Result (List (List ℕ)) VarFault

@@ -16,10 +16,10 @@ use Rattle.var_store.specs.Fronts.{front}
 use Rattle.var_store.specs.Standing.{standing}
 
 abbrev pub no_faults : Faults
-no_faults = record { no_parent = false; read_only = false; not_array = false; out_of_range = false; not_a_name = false; wrong_kind = false; }
+no_faults = record { no_parent = false; read_only = false; not_array = false; out_of_range = false; not_a_name = false; wrong_kind = false }
 
 abbrev pub both : Faults → Faults → Faults
-both a b = record { no_parent = a.no_parent || b.no_parent; read_only = a.read_only || b.read_only; not_array = a.not_array || b.not_array; out_of_range = a.out_of_range || b.out_of_range; not_a_name = a.not_a_name || b.not_a_name; wrong_kind = a.wrong_kind || b.wrong_kind; }
+both a b = record { no_parent = a.no_parent || b.no_parent; read_only = a.read_only || b.read_only; not_array = a.not_array || b.not_array; out_of_range = a.out_of_range || b.out_of_range; not_a_name = a.not_a_name || b.not_a_name; wrong_kind = a.wrong_kind || b.wrong_kind }
 
 -- the first that applies
 abbrev pub first_fault : Faults → Option VarFault
@@ -63,9 +63,9 @@ largest_index = 4194303
 
 -- the faults of a step, which `refused` says that what stands before it refuses as a subscript
 abbrev pub step_faults : Bool → Value → Bool → Step → Faults
-step_faults locked v refused (Index n) = record { no_parent = false; read_only = locked; not_array = refused; out_of_range = nat_lt largest_index n; not_a_name = false; wrong_kind = is_wrong_step v (Index n); }
-step_faults locked v refused (Key s) = record { no_parent = false; read_only = locked; not_array = refused; out_of_range = false; not_a_name = false; wrong_kind = is_wrong_step v (Key s); }
-step_faults locked v refused (Member m) = record { no_parent = is_unset v; read_only = locked; not_array = false; out_of_range = false; not_a_name = false; wrong_kind = is_wrong_step v (Member m); }
+step_faults locked v refused (Index n) = record { no_parent = false; read_only = locked; not_array = refused; out_of_range = nat_lt largest_index n; not_a_name = false; wrong_kind = is_wrong_step v (Index n) }
+step_faults locked v refused (Key s) = record { no_parent = false; read_only = locked; not_array = refused; out_of_range = false; not_a_name = false; wrong_kind = is_wrong_step v (Key s) }
+step_faults locked v refused (Member m) = record { no_parent = is_unset v; read_only = locked; not_array = false; out_of_range = false; not_a_name = false; wrong_kind = is_wrong_step v (Member m) }
 
 abbrev pub step_faults_at : {H : Type 0} → Cell H → Bool → Option Step → Faults
 step_faults_at c has_members None = no_faults

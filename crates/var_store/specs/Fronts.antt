@@ -8,7 +8,7 @@ use Rattle.var_types.specs.Order.{path_cmp}
 
 -- the path with its first steps alone
 abbrev pub front : ℕ → Path → Path
-front depth path = record { scope = path.scope; name = path.name; steps = take depth path.steps; }
+front depth path = record { scope = path.scope; name = path.name; steps = take depth path.steps }
 
 -- the first rows are before the path
 abbrev pub AreBefore : {H : Type 0} → Rows H → Path → ℕ → Type 0

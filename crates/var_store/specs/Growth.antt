@@ -14,11 +14,11 @@ use Rattle.var_store.specs.Changes.{with_rows}
 
 -- a row keeps its attributes and hooks where its value changes
 abbrev pub with_value : {H : Type 0} → Cell H → Value → Cell H
-with_value c v = record { attrs = c.attrs; value = v; hooks = c.hooks; }
+with_value c v = record { attrs = c.attrs; value = v; hooks = c.hooks }
 
 -- the path with one more step
 abbrev pub then_step : Path → Step → Path
-then_step path s = record { scope = path.scope; name = path.name; steps = path.steps ++ s ∷ []; }
+then_step path s = record { scope = path.scope; name = path.name; steps = path.steps ++ s ∷ [] }
 
 -- what a row becomes before a subscript: nothing set, and no members, becomes an array; a text or a number becomes one that has it at 0
 pub data Turn : Type 0 where

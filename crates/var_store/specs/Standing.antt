@@ -22,11 +22,11 @@ is_single v = false
 
 -- the attributes that a new element has from its array: those of number, case and width
 abbrev pub element_attrs : Attrs → Attrs
-element_attrs a = record { integer = a.integer; upper = a.upper; lower = a.lower; left = a.left; right = a.right; zero = a.zero; readonly = false; exported = false; }
+element_attrs a = record { integer = a.integer; upper = a.upper; lower = a.lower; left = a.left; right = a.right; zero = a.zero; readonly = false; exported = false }
 
 -- a row that isn't there is as an unset one
 abbrev pub blank : {H : Type 0} → Cell H
-blank = record { attrs = no_attrs; value = Unset; hooks = no_hooks; }
+blank = record { attrs = no_attrs; value = Unset; hooks = no_hooks }
 
 -- what a step leads to where no row is: element 0 of a text or a number is that itself
 abbrev pub led_to : Value → Step → Value
@@ -39,7 +39,7 @@ led_attrs a s = element_attrs a
 
 abbrev pub after_step : {H : Type 0} → Cell H → Option Step → Cell H
 after_step c None = blank
-after_step c (Some s) = record { attrs = led_attrs c.attrs s; value = led_to c.value s; hooks = no_hooks; }
+after_step c (Some s) = record { attrs = led_attrs c.attrs s; value = led_to c.value s; hooks = no_hooks }
 
 -- what stands after the first steps of a path
 abbrev pub standing : {H : Type 0} → Rows H → Path → ℕ → Cell H

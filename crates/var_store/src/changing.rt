@@ -32,7 +32,9 @@ pub fn change_refused_at_end<H>(rows: &RowList<H>, path: &Path) -> Option<VarFau
 pub fn locked_below<H>(rows: &RowList<H>, path: &Path) -> bool
     ensures { result ≡ has_locked path.now rows.now }
 {
-    rows.rows().iter().any(|row| row.1.attrs.readonly && is_prefix(path, &row.0))
+    rows.rows()
+        .iter()
+        .any(|row| row.1.attrs.readonly && is_prefix(path, &row.0))
 }
 
 fn set_hook<H: Drop>(hooks: &mut HookSet<H>, kind: HookKind, function: Option<Shared<H>>)
@@ -67,7 +69,12 @@ pub fn hooked<H: Drop>(
 }
 
 /// Takes a discipline's function from a row, or does nothing.
-pub fn unhook<H: Drop>(alloc: Global, rows: &mut RowList<H>, path: &Path, kind: HookKind) -> Result<(), Memory>
+pub fn unhook<H: Drop>(
+    alloc: Global,
+    rows: &mut RowList<H>,
+    path: &Path,
+    kind: HookKind,
+) -> Result<(), Memory>
     ensures ok { OnOk result (rows.new ≡ unhooked_rows path.now kind (cell_at path.now rows.old) rows.old) }
     ensures err { OnErr result (rows.new ≡ rows.old) }
 {

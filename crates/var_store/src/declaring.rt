@@ -91,9 +91,7 @@ fn changed<H>(row: Option<&Cell<H>>, attrs: &Attrs, value: &Value) -> bool
     ensures { result ≡ is_changed (option_copied row.entry) attrs.now value.now }
 {
     match row {
-        Some(cell) => {
-            !(same_value(&cell.value, value) && same_but_exported(&cell.attrs, attrs))
-        }
+        Some(cell) => { !(same_value(&cell.value, value) && same_but_exported(&cell.attrs, attrs)) }
         None => true,
     }
 }
@@ -117,7 +115,12 @@ fn refers(value: &Value) -> bool
 }
 
 /// The cell that a declaration makes of what stands at a path.
-pub fn declared<H: Drop>(rows: &RowList<H>, path: &Path, attrs: Attrs, value: Value) -> Result<Cell<H>, VarFault>
+pub fn declared<H: Drop>(
+    rows: &RowList<H>,
+    path: &Path,
+    attrs: Attrs,
+    value: Value,
+) -> Result<Cell<H>, VarFault>
     ensures { Answers result (declare_cell rows.now path.now attrs value) }
 {
     let walked = walk(rows, path);

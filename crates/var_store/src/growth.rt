@@ -158,12 +158,23 @@ fn value_moved<H: Drop>(
     let zero = with_step(copy_front(alloc, path, depth)?, Step::Index(0))?;
     let attrs = element_attrs_at(rows, &zero, stands.attrs);
     let hooks = row_hooks(rows, &zero)?;
-    writes.push((zero, Cell { attrs, value, hooks }))?;
+    writes.push((
+        zero,
+        Cell {
+            attrs,
+            value,
+            hooks,
+        },
+    ))?;
     Ok(())
 }
 
 /// What is written before the steps of a path.
-fn growths<H: Drop>(alloc: Global, rows: &RowList<H>, path: &Path) -> Result<Vec<(Path, Cell<H>)>, Memory>
+fn growths<H: Drop>(
+    alloc: Global,
+    rows: &RowList<H>,
+    path: &Path,
+) -> Result<Vec<(Path, Cell<H>)>, Memory>
     ensures { IfOk result (λ w. w.items ≡ growths rows.now path.now (length path.now.steps)) }
 {
     let mut writes = Vec::new(alloc);
@@ -178,7 +189,12 @@ fn growths<H: Drop>(alloc: Global, rows: &RowList<H>, path: &Path) -> Result<Vec
 }
 
 /// Writes a cell at a path, and the arrays that it stands in, or nothing.
-pub fn grow<H: Drop>(alloc: Global, rows: &mut RowList<H>, path: &Path, cell: Cell<H>) -> Result<(), Memory>
+pub fn grow<H: Drop>(
+    alloc: Global,
+    rows: &mut RowList<H>,
+    path: &Path,
+    cell: Cell<H>,
+) -> Result<(), Memory>
     ensures ok { OnOk result (rows.new ≡ grown rows.old path.now cell) }
     ensures err { OnErr result (rows.new ≡ rows.old) }
 {

@@ -14,3 +14,6 @@ mod walk;
 
 pub use faults::VarFault;
 pub use store::VarStore;
+
+#[cfg(test)]
+mod tests;

@@ -26,7 +26,11 @@ fn step_between<'a>(path: &Path, other: &'a Path) -> Option<&'a Step>
     if steps.len() == depth {
         return None;
     }
-    if steps.len() - 1 == depth { steps.get(depth) } else { None }
+    if steps.len() - 1 == depth {
+        steps.get(depth)
+    } else {
+        None
+    }
 }
 
 /// The text of an index.
@@ -153,7 +157,11 @@ pub fn members<H>(alloc: Global, rows: &RowList<H>, path: &Path) -> Result<Vec<N
 fn name_in(scope: u32, path: &Path) -> Option<&Name>
     ensures { option_copied result ≡ name_in scope path.now }
 {
-    if path.scope == scope && path.steps.is_empty() { Some(&path.name) } else { None }
+    if path.scope == scope && path.steps.is_empty() {
+        Some(&path.name)
+    } else {
+        None
+    }
 }
 
 /// The names of a scope's rows whose path has no steps.

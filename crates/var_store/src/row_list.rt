@@ -215,7 +215,10 @@ fn write_one<H: Drop>(rows: &mut Vec<(Path, Cell<H>)>, path: Path, cell: Cell<H>
     }
 }
 
-fn copy_rows<H: Drop>(alloc: Global, rows: &[(Path, Cell<H>)]) -> Result<Vec<(Path, Cell<H>)>, Memory>
+fn copy_rows<H: Drop>(
+    alloc: Global,
+    rows: &[(Path, Cell<H>)],
+) -> Result<Vec<(Path, Cell<H>)>, Memory>
     ensures { IfOk result (λ c. c.items ≡ rows.now) }
 {
     let mut copies = Vec::new(alloc);

@@ -41,7 +41,12 @@ fn sum(value: Option<&Value>, more: Value) -> Value
 }
 
 /// What a row's value becomes where a text is added behind it.
-fn appended(alloc: Global, attrs: &Attrs, value: Option<&Value>, text: &[u8]) -> Result<Option<Value>, Memory>
+fn appended(
+    alloc: Global,
+    attrs: &Attrs,
+    value: Option<&Value>,
+    text: &[u8],
+) -> Result<Option<Value>, Memory>
     ensures { IfOk result (λ v. v ≡ appended_by attrs.now.integer attrs.now (Held value.entry) text.now) }
 {
     match attrs.integer {
@@ -58,7 +63,13 @@ fn appended(alloc: Global, attrs: &Attrs, value: Option<&Value>, text: &[u8]) ->
 }
 
 /// What a row's value becomes where a text is put, or added behind it.
-pub fn assigned(alloc: Global, append: bool, attrs: &Attrs, value: Option<&Value>, text: &[u8]) -> Result<Option<Value>, Memory>
+pub fn assigned(
+    alloc: Global,
+    append: bool,
+    attrs: &Attrs,
+    value: Option<&Value>,
+    text: &[u8],
+) -> Result<Option<Value>, Memory>
     ensures { IfOk result (λ v. v ≡ assigned append attrs.now (Held value.entry) text.now) }
 {
     if append {

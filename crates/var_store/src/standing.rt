@@ -47,7 +47,11 @@ fn led<'a>(before: Standing<'a>, step: &Step) -> Standing<'a>
     match step {
         Step::Index(at) => Standing {
             attrs: for_element(before.attrs),
-            value: if *at == 0 && single(before.value) { before.value } else { None },
+            value: if *at == 0 && single(before.value) {
+                before.value
+            } else {
+                None
+            },
         },
         Step::Key(_) => Standing {
             attrs: for_element(before.attrs),
@@ -112,7 +116,9 @@ pub fn has_below_front<H>(rows: &RowList<H>, path: &Path, depth: usize) -> bool
     requires { depth ≤ length path.now.steps }
     ensures { result ≡ has_below (front depth path.now) rows.now }
 {
-    rows.rows().iter().any(|row| goes_on_from(path, depth, &row.0))
+    rows.rows()
+        .iter()
+        .any(|row| goes_on_from(path, depth, &row.0))
 }
 
 /// Whether the path `other` goes on from the first `depth` steps of `path`.
@@ -122,6 +128,9 @@ fn goes_on_from(path: &Path, depth: usize, other: &Path) -> bool
 {
     path.scope == other.scope
         && path.name == other.name
-        && other.steps.as_slice().starts_with(&path.steps.as_slice()[..depth])
+        && other
+            .steps
+            .as_slice()
+            .starts_with(&path.steps.as_slice()[..depth])
         && depth < other.steps.len()
 }

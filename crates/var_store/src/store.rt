@@ -108,14 +108,24 @@ impl<H: Drop> VarStore<H> {
     }
 
     /// Puts a text into a row, which its attributes shape.
-    pub fn put<L: Ledger>(&mut self, path: &Path, value: &[u8], _steps: &mut Steps<L>) -> Result<(), VarFault>
+    pub fn put<L: Ledger>(
+        &mut self,
+        path: &Path,
+        value: &[u8],
+        _steps: &mut Steps<L>,
+    ) -> Result<(), VarFault>
         ensures { Changes result self.old self.new (put_of self.old path.now value.now) }
     {
         self.put_text(path, value)
     }
 
     /// Adds a text behind that of a row, or a number to its number.
-    pub fn append<L: Ledger>(&mut self, path: &Path, value: &[u8], _steps: &mut Steps<L>) -> Result<(), VarFault>
+    pub fn append<L: Ledger>(
+        &mut self,
+        path: &Path,
+        value: &[u8],
+        _steps: &mut Steps<L>,
+    ) -> Result<(), VarFault>
         ensures { Changes result self.old self.new (append_of self.old path.now value.now) }
     {
         self.append_text(path, value)
@@ -129,7 +139,13 @@ impl<H: Drop> VarStore<H> {
     }
 
     /// Gives a row these attributes and this value. It keeps its hooks.
-    pub fn declare<L: Ledger>(&mut self, path: &Path, attrs: Attrs, value: Value, _steps: &mut Steps<L>) -> Result<(), VarFault>
+    pub fn declare<L: Ledger>(
+        &mut self,
+        path: &Path,
+        attrs: Attrs,
+        value: Value,
+        _steps: &mut Steps<L>,
+    ) -> Result<(), VarFault>
         ensures { Changes result self.old self.new (declare_of self.old path.now attrs value) }
     {
         self.declare_row(path, attrs, value)
@@ -199,7 +215,13 @@ impl<H: Drop> VarStore<H> {
     }
 
     /// Assigns to the row there, whose path has no steps.
-    fn assign_name(&mut self, path: &Path, at: usize, text: &[u8], append: bool) -> Result<(), VarFault>
+    fn assign_name(
+        &mut self,
+        path: &Path,
+        at: usize,
+        text: &[u8],
+        append: bool,
+    ) -> Result<(), VarFault>
         requires place { Places self.old.0 path.now (Ok at) }
         requires name { path.now.steps ≡ [] }
         ensures { Changes result self.old self.new (assign_at append self.old path.now text.now) }
@@ -221,7 +243,12 @@ impl<H: Drop> VarStore<H> {
         Ok(())
     }
 
-    pub(crate) fn declare_row(&mut self, path: &Path, attrs: Attrs, value: Value) -> Result<(), VarFault>
+    pub(crate) fn declare_row(
+        &mut self,
+        path: &Path,
+        attrs: Attrs,
+        value: Value,
+    ) -> Result<(), VarFault>
         ensures { Changes result self.old self.new (declare_of self.old path.now attrs value) }
     {
         let cell = declared(&self.rows, path, attrs, value)?;
@@ -243,7 +270,12 @@ impl<H: Drop> VarStore<H> {
         Ok(())
     }
 
-    pub(crate) fn hook_row(&mut self, path: &Path, kind: HookKind, function: Option<Shared<H>>) -> Result<(), VarFault>
+    pub(crate) fn hook_row(
+        &mut self,
+        path: &Path,
+        kind: HookKind,
+        function: Option<Shared<H>>,
+    ) -> Result<(), VarFault>
         ensures { Changes result self.old self.new (hook_of self.old path.now kind function) }
     {
         match function {

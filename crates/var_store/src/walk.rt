@@ -22,7 +22,12 @@ fn unset(value: Option<&Value>) -> bool
 }
 
 /// Whether what stands there refuses subscripts.
-fn subscripts_refused<H>(value: Option<&Value>, rows: &RowList<H>, path: &Path, depth: usize) -> bool
+fn subscripts_refused<H>(
+    value: Option<&Value>,
+    rows: &RowList<H>,
+    path: &Path,
+    depth: usize,
+) -> bool
     requires { depth ≤ length path.now.steps }
     ensures { result ≡ refuses_subscripts (Held value.entry) (has_below (front depth path.now) rows.now) }
 {

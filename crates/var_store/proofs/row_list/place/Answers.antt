@@ -22,12 +22,14 @@ pub returns-in-Equal : goal.returns-in-Equal
 returns-in-Equal g c =
     let inside : c.loop-low.low + (c.loop-low.high - c.loop-low.low) / 2 < length c.args.rows.now = (let w = c.loop-low.invariant.within in let t = c.loop-low-test.true in omega arith) in
     let at = slice_get_read c.args.rows.now (length c.args.rows.now) _ c.index-rows-middle.result refl inside c.index-rows-middle.is in
-    let same : path_cmp c.index-rows-middle.result.0 (front c.args.depth c.args.path.now) ≡ Equal = sym c.compare_front.ensures ∙ c.in-Equal.is in
-    (inside, record {
-      within = omega arith;
-      before = before_one path_total (front c.args.depth c.args.path.now) c.args.rows.now c.requires.rising _ _ at (inr same);
-      there = there_one path_total (front c.args.depth c.args.path.now) c.args.rows.now c.requires.rising _ _ Equal at same;
-    })
+    let same : path_cmp c.index-rows-middle.result.0 (front c.args.depth c.args.path.now) ≡ Equal = sym c.compare_front.ensures ∙ c.in-Equal.is in (
+      inside,
+      record {
+        within = omega arith;
+        before = before_one path_total (front c.args.depth c.args.path.now) c.args.rows.now c.requires.rising _ _ at (inr same);
+        there = there_one path_total (front c.args.depth c.args.path.now) c.args.rows.now c.requires.rising _ _ Equal at same;
+      },
+    )
 
 pub loop-low-preserved : goal.loop-low-preserved
 loop-low-preserved g c =
