@@ -406,7 +406,13 @@ fn bodies_and_lines_lie_in_the_text(rt: HostRuntime) -> Result<(), Fail> {
     let alloc = rt.alloc();
     let text: &[u8] = b"<<-E <<F\n\ta$b\n\t\tE\n";
     let mut lexer = Lexer::new(alloc, text)?;
-    let mut inside = lexer.inside(alloc, body(9, 14, true));
+    let whole = Body {
+        from: 9,
+        to: 14,
+        tabs: true,
+        expands: true,
+    };
+    let mut inside = lexer.inside(alloc, whole);
     let mode = LexMode::HereBody {
         tabs: true,
         expands: true,
