@@ -28,13 +28,14 @@ impl Cells<u8> for Rows {
 
 /// A path that a text writes: a name of one letter, and members of one letter each.
 fn path(alloc: Global, text: &[u8]) -> Result<Path, Fail> {
+    let (front, letters) = text.split_at(text.len().min(1));
     let mut steps = Items::new(alloc);
-    for letter in &text[1..] {
+    for letter in letters {
         steps.push(Step::Member(Name::read(alloc, &[*letter])?))?;
     }
     Ok(Path {
         scope: 0,
-        name: Name::read(alloc, &text[..1])?,
+        name: Name::read(alloc, front)?,
         steps,
     })
 }
