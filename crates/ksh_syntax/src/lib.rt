@@ -13,6 +13,7 @@ mod simple;
 #[cfg(test)]
 mod tests;
 mod text;
+mod value_words;
 mod values;
 mod words;
 
