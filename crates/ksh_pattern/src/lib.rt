@@ -15,6 +15,3 @@ pub use byte_test::{ByteTest, Class, Member};
 pub use marked::Marked;
 pub use part::{Kind, Part};
 pub use pattern::Pattern;
-
-#[cfg(test)]
-mod tests;
