@@ -86,19 +86,19 @@ open_even : (g d : ℕ) (k : Kind) (ts : List Token) → ((h e : ℕ) → h + e 
     → nat_lt 0 (unopened ts) ≡ a → (nat_le g 64 && d == 0) ≡ b → g + d ≤ unopened ts - 1 → IsEven g (settled g d (token.Open k ∷ ts))
 open_even g d k ts further false b e f h =
     as_before g (settled g d (token.Open k ∷ ts)) (settled g d ts)
-        (ap opens (settled_lone g d k ts e) ∙ opening_opens k (settled g d ts))
-        (ap closes (settled_lone g d k ts e) ∙ opening_closes k (settled g d ts))
-        (further g d (none_left (unopened ts) g d e h))
+    (ap opens (settled_lone g d k ts e) ∙ opening_opens k (settled g d ts))
+    (ap closes (settled_lone g d k ts e) ∙ opening_closes k (settled g d ts))
+    (further g d (none_left (unopened ts) g d e h))
 open_even g d k ts further true true e f h =
     as_before g (settled g d (token.Open k ∷ ts)) (token.Open k ∷ settled (g + 1) 0 ts)
-        (ap opens (settled_group g d k ts e f))
-        (ap closes (settled_group g d k ts e f))
-        (one_open (opens (settled (g + 1) 0 ts)) (closes (settled (g + 1) 0 ts)) g (further (g + 1) 0 (in_group (unopened ts) g d e h)))
+    (ap opens (settled_group g d k ts e f))
+    (ap closes (settled_group g d k ts e f))
+    (one_open (opens (settled (g + 1) 0 ts)) (closes (settled (g + 1) 0 ts)) g (further (g + 1) 0 (in_group (unopened ts) g d e h)))
 open_even g d k ts further true false e f h =
     as_before g (settled g d (token.Open k ∷ ts)) (settled g (d + 1) ts)
-        (ap opens (settled_deep g d k ts e f) ∙ opening_opens k (settled g (d + 1) ts))
-        (ap closes (settled_deep g d k ts e f) ∙ opening_closes k (settled g (d + 1) ts))
-        (further g (d + 1) (in_deep (unopened ts) g d e h))
+    (ap opens (settled_deep g d k ts e f) ∙ opening_opens k (settled g (d + 1) ts))
+    (ap closes (settled_deep g d k ts e f) ∙ opening_closes k (settled g (d + 1) ts))
+    (further g (d + 1) (in_deep (unopened ts) g d e h))
 
 settled_even : (g d : ℕ) (ts : List Token) → g + d ≤ unopened ts → IsEven g (settled g d ts)
 settled_even g d [] h = let none : g ≡ 0 = omega arith in omega (arith, none)
@@ -162,8 +162,8 @@ counted_all : (ps : List ((p : Part) × IsCounted p)) → opens (spelling (bare 
 counted_all [] = omega arith
 counted_all (p ∷ ps) =
     put_together (opens (part_spelling p.0)) (closes (part_spelling p.0)) (hollow p.0) (opens (spelling (bare ps))) (closes (spelling (bare ps))) (hollows (bare ps))
-        (opens (spelling (bare (p ∷ ps)))) (closes (spelling (bare (p ∷ ps))))
-        (opens_append (part_spelling p.0) (spelling (bare ps))) (closes_append (part_spelling p.0) (spelling (bare ps))) p.1 (counted_all ps)
+    (opens (spelling (bare (p ∷ ps)))) (closes (spelling (bare (p ∷ ps))))
+    (opens_append (part_spelling p.0) (spelling (bare ps))) (closes_append (part_spelling p.0) (spelling (bare ps))) p.1 (counted_all ps)
 
 last_counted : (o c h a b : ℕ) → a ≡ o + 0 → b ≡ c + 1 → o ≡ c + h → suc a ≡ b + h
 last_counted o c h a b p q r = omega arith
@@ -178,13 +178,13 @@ counted_some : (alts : List (List ((p : Part) × IsCounted p))) → suc (opens (
 counted_some [] = omega arith
 counted_some (a ∷ []) =
     last_counted (opens (spelling (bare a))) (closes (spelling (bare a))) (hollows (bare a)) _ _
-        (opens_append (spelling (bare a)) (token.Close ∷ [])) (closes_append (spelling (bare a)) (token.Close ∷ [])) (counted_all a)
+    (opens_append (spelling (bare a)) (token.Close ∷ [])) (closes_append (spelling (bare a)) (token.Close ∷ [])) (counted_all a)
 counted_some (a ∷ b ∷ rest) =
     next_counted (opens (spelling (bare a))) (closes (spelling (bare a))) (hollows (bare a))
-        (opens (closed (map spelling (bares (b ∷ rest))))) (closes (closed (map spelling (bares (b ∷ rest))))) (hollow_some (bares (b ∷ rest))) _ _
-        (opens_append (spelling (bare a)) (token.Bar ∷ closed (map spelling (bares (b ∷ rest)))))
-        (closes_append (spelling (bare a)) (token.Bar ∷ closed (map spelling (bares (b ∷ rest)))))
-        (counted_all a) (counted_some (b ∷ rest))
+    (opens (closed (map spelling (bares (b ∷ rest))))) (closes (closed (map spelling (bares (b ∷ rest))))) (hollow_some (bares (b ∷ rest))) _ _
+    (opens_append (spelling (bare a)) (token.Bar ∷ closed (map spelling (bares (b ∷ rest)))))
+    (closes_append (spelling (bare a)) (token.Bar ∷ closed (map spelling (bares (b ∷ rest)))))
+    (counted_all a) (counted_some (b ∷ rest))
 
 counted_step : (x : Part-F Part) (y : Part-F ((p : Part) × IsCounted p)) → map-Part ((p : Part) × IsCounted p) Part (λ e. e.0) y ≡ x → IsCounted (roll-Part x)
 counted_step x (Part-F.One t) is =
@@ -199,8 +199,8 @@ counted_step x Part-F.AnyText is =
     any_leaf o c h = omega (arith, o, c, h)
 counted_step x (Part-F.Group k alts) is =
     subst (λ z. IsCounted (roll-Part z)) is (subst IsCounted (sym (part.rolls-Group k (bares alts)))
-        (ap opens (group_spelling k (bares alts)) ∙ counted_some alts
-        ∙ (λ i. closes (sym (group_spelling k (bares alts)) i) + sym (hollow_group k (bares alts)) i)))
+    (ap opens (group_spelling k (bares alts)) ∙ counted_some alts
+    ∙ (λ i. closes (sym (group_spelling k (bares alts)) i) + sym (hollow_group k (bares alts)) i)))
 
 counted : (p : Part) → IsCounted p
 counted = ind-Part IsCounted counted_step
@@ -270,8 +270,8 @@ read_step x Part-F.AnyText is =
     subst (λ z. IsRead (roll-Part z)) is (subst IsRead (sym part.rolls-AnyText) (λ h ts os ps. ap (λ us. tree_of (us ++ ts) os ps) any_spelling))
 read_step x (Part-F.Group k alts) is =
     subst (λ z. IsRead (roll-Part z)) is (subst IsRead (sym (part.rolls-Group k (plains alts))) (λ h ts os ps.
-        ap (λ us. tree_of (us ++ ts) os ps) (group_spelling k (plains alts))
-        ∙ read_some alts (sym (hollow_group k (plains alts)) ∙ h) ts os k ps []))
+    ap (λ us. tree_of (us ++ ts) os ps) (group_spelling k (plains alts))
+    ∙ read_some alts (sym (hollow_group k (plains alts)) ∙ h) ts os k ps []))
 
 read : (p : Part) → IsRead p
 read = ind-Part IsRead read_step
@@ -289,7 +289,7 @@ spelled_read ps h =
 no_hollows : (ms : List Marked) (ps : List Part) → IsReadAs ms ps → hollows ps ≡ 0
 no_hollows ms ps h =
     same_counts (opens (spelling ps)) (closes (spelling ps)) (hollows ps) (spelled_counted ps)
-        (subst (λ ts. opens ts + 0 ≡ closes ts) (sym h) (settled_even 0 0 (tokens_of 0 ms) (omega arith)))
+    (subst (λ ts. opens ts + 0 ≡ closes ts) (sym h) (settled_even 0 0 (tokens_of 0 ms) (omega arith)))
   where
     same_counts : (o c n : ℕ) → o ≡ c + n → o + 0 ≡ c → n ≡ 0
     same_counts o c n e f = omega arith
