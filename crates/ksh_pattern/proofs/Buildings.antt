@@ -10,7 +10,7 @@ use Rattle.ksh_pattern.specs.declared.byte_test.ByteTest.TheVariants as test
 use Rattle.ksh_pattern.specs.declared.token.Token.{Token}
 use Rattle.ksh_pattern.specs.declared.token.Token.TheVariants as token
 use Rattle.ksh_pattern.specs.declared.build.Opened.{Opened}
-use Rattle.ksh_pattern.specs.Reading.{literal, opening, unopened, settled, barred, joined_tokens, spelling_step, part_spelling, spelling}
+use Rattle.ksh_pattern.specs.Reading.{literal, opening, unopened, settled, closed, joined_tokens, spelling_step, part_spelling, spelling}
 use Rattle.ksh_pattern.specs.Building.{each_barred, opened_spelling}
 
 pub one_spelling : (t : ByteTest) → part_spelling (part.One t) ≡ token.One t ∷ []
@@ -19,11 +19,11 @@ one_spelling t = ap part_spelling (sym (part.rolls-One t)) ∙ fold-roll-Part (L
 pub any_spelling : part_spelling part.AnyText ≡ token.AnyText ∷ []
 any_spelling = ap part_spelling (sym part.rolls-AnyText) ∙ fold-roll-Part (List Token) spelling_step Part-F.AnyText
 
-pub group_spelling : (k : Kind) (alts : List (List Part)) → part_spelling (part.Group k alts) ≡ token.Open k ∷ (barred (map spelling alts) ++ token.Close ∷ [])
+pub group_spelling : (k : Kind) (alts : List (List Part)) → part_spelling (part.Group k alts) ≡ token.Open k ∷ closed (map spelling alts)
 group_spelling k alts =
     ap part_spelling (sym (part.rolls-Group k alts))
     ∙ fold-roll-Part (List Token) spelling_step (Part-F.Group k alts)
-    ∙ ap (λ ts. token.Open k ∷ (barred ts ++ token.Close ∷ [])) (map-map joined_tokens _ alts)
+    ∙ ap (λ ts. token.Open k ∷ closed ts) (map-map joined_tokens _ alts)
 
 joined_more : (tss : List (List Token)) (ts : List Token) → joined_tokens (tss ++ ts ∷ []) ≡ joined_tokens tss ++ ts
 joined_more [] ts = append-nil ts
@@ -36,10 +36,12 @@ each_more : (alts : List (List Part)) (a : List Part) → each_barred (alts ++ a
 each_more [] a = refl
 each_more (b ∷ alts) a = ap (λ x. spelling b ++ token.Bar ∷ x) (each_more alts a) ∙ sym (append_assoc (spelling b) (token.Bar ∷ each_barred alts) (spelling a ++ token.Bar ∷ []))
 
-barred_last : (alts : List (List Part)) (a : List Part) → barred (map spelling (alts ++ a ∷ [])) ≡ each_barred alts ++ spelling a
-barred_last [] a = refl
-barred_last (b ∷ []) a = sym (append_assoc (spelling b) (token.Bar ∷ []) (spelling a))
-barred_last (b ∷ c ∷ alts) a = ap (λ x. spelling b ++ token.Bar ∷ x) (barred_last (c ∷ alts) a) ∙ sym (append_assoc (spelling b) (token.Bar ∷ each_barred (c ∷ alts)) (spelling a))
+closed_last : (alts : List (List Part)) (a : List Part) → closed (map spelling (alts ++ a ∷ [])) ≡ each_barred alts ++ (spelling a ++ token.Close ∷ [])
+closed_last [] a = refl
+closed_last (b ∷ []) a = sym (append_assoc (spelling b) (token.Bar ∷ []) (spelling a ++ token.Close ∷ []))
+closed_last (b ∷ c ∷ alts) a =
+    ap (λ x. spelling b ++ token.Bar ∷ x) (closed_last (c ∷ alts) a)
+    ∙ sym (append_assoc (spelling b) (token.Bar ∷ each_barred (c ∷ alts)) (spelling a ++ token.Close ∷ []))
 
 pub opened_more : (os : List Opened) (o : Opened) → opened_spelling (os ++ o ∷ []) ≡ opened_spelling os ++ (spelling o.before ++ token.Open o.kind ∷ each_barred o.alternatives)
 opened_more [] o = ap (λ x. spelling o.before ++ token.Open o.kind ∷ x) (append-nil (each_barred o.alternatives))
@@ -75,7 +77,7 @@ pub close_spells : (os : List Opened) (o : Opened) (ps : List Part)
     → opened_spelling os ++ spelling (o.before ++ part.Group o.kind (o.alternatives ++ ps ∷ []) ∷ []) ≡ (opened_spelling (os ++ o ∷ []) ++ spelling ps) ++ token.Close ∷ []
 close_spells os o ps =
     ap (λ x. opened_spelling os ++ x) (spelling_more o.before (part.Group o.kind (o.alternatives ++ ps ∷ [])) ∙ ap (λ x. spelling o.before ++ x) (group_spelling o.kind (o.alternatives ++ ps ∷ [])))
-    ∙ ap (λ x. opened_spelling os ++ (spelling o.before ++ token.Open o.kind ∷ x)) (ap (λ x. x ++ token.Close ∷ []) (barred_last o.alternatives ps) ∙ append_assoc (each_barred o.alternatives) (spelling ps) (token.Close ∷ []))
+    ∙ ap (λ x. opened_spelling os ++ (spelling o.before ++ token.Open o.kind ∷ x)) (closed_last o.alternatives ps)
     ∙ sym (before_parts os o ps (token.Close ∷ []))
 
 pub open_step : (os os' : List Opened) (ps ps' b : List Part) (alts : List (List Part)) (k : Kind) → os' ≡ os ++ record { kind = k; before = b; alternatives = alts } ∷ [] → ps' ≡ [] → b ≡ ps → alts ≡ []

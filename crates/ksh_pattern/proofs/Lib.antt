@@ -6,3 +6,4 @@ pub mod Texts
 pub mod Tokens
 pub mod Buildings
 pub mod Doubles
+pub mod Unique

@@ -145,11 +145,11 @@ settled (suc groups) zero (token.Bar ∷ ts) = token.Bar ∷ settled (suc groups
 settled zero zero (token.Bar ∷ ts) = literal 124 ∷ settled 0 0 ts
 settled groups deep (t ∷ ts) = t ∷ settled groups deep ts
 
--- the tokens of alternatives, with bars between them
-abbrev pub barred : List (List Token) → List Token
-barred [] = []
-barred (ts ∷ []) = ts
-barred (ts ∷ us ∷ rest) = ts ++ token.Bar ∷ barred (us ∷ rest)
+-- the tokens of alternatives, with bars between them, and the closing; without an alternative, a group would have no end
+abbrev pub closed : List (List Token) → List Token
+closed [] = []
+closed (ts ∷ []) = ts ++ token.Close ∷ []
+closed (ts ∷ us ∷ rest) = ts ++ token.Bar ∷ closed (us ∷ rest)
 
 abbrev pub joined_tokens : List (List Token) → List Token
 joined_tokens [] = []
@@ -159,7 +159,7 @@ joined_tokens (ts ∷ rest) = ts ++ joined_tokens rest
 abbrev pub spelling_step : Part-F (List Token) → List Token
 spelling_step (Part-F.One t) = token.One t ∷ []
 spelling_step Part-F.AnyText = token.AnyText ∷ []
-spelling_step (Part-F.Group k alternatives) = token.Open k ∷ (barred (map joined_tokens alternatives) ++ token.Close ∷ [])
+spelling_step (Part-F.Group k alternatives) = token.Open k ∷ closed (map joined_tokens alternatives)
 
 abbrev pub part_spelling : Part → List Token
 part_spelling = fold-Part (List Token) spelling_step

@@ -14,7 +14,4 @@ mod token;
 pub use byte_test::{ByteTest, Class, Member};
 pub use marked::Marked;
 pub use part::{Kind, Part};
-pub use pattern::Pattern;
-
-#[cfg(test)]
-mod tests;
+pub use pattern::{Pattern, one_reading};

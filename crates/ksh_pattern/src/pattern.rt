@@ -1,5 +1,7 @@
 //! A pattern and its calls.
-ghost use Rattle.std.specs.Prelude.{◌≡◌, ◌≤◌, length, IfOk};
+ghost use Rattle.std.specs.Prelude.{◌≡◌, ◌≤◌, List, length, IfOk};
+ghost use Rattle.ksh_pattern.specs.declared.marked.Marked as marked;
+ghost use Rattle.ksh_pattern.specs.declared.part.Part as part;
 ghost use Rattle.ksh_pattern.specs.Match.{matches};
 ghost use Rattle.ksh_pattern.specs.Ends.{IsGreatest, IsLeast, IsFirstIn, front_matches, tail_matches};
 ghost use Rattle.ksh_pattern.specs.Reading.{IsReadAs};
@@ -96,3 +98,8 @@ impl Pattern {
         search::first_in(self.alloc, self.parts.as_slice(), text, from)
     }
 }
+
+/// Marked bytes are read as one pattern at most.
+pub fn one_reading()
+    ensures { (pieces : List marked.Marked) (a b : List part.Part) → IsReadAs pieces a → IsReadAs pieces b → a ≡ b }
+{}

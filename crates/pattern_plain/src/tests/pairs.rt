@@ -1,33 +1,13 @@
+use super::{cut, pattern};
 use crate::plain_matches;
 use ksh_base::Memory;
-use ksh_pattern::{Marked, Pattern};
-use std::alloc::Global;
+use ksh_pattern::Pattern;
 use std::test::Fail;
 
 /// Patterns, and the texts on each of which both ways agree: 30 times 15 pairs.
 const PATTERNS: &[u8] =
     b"a b ? * a* *a a*b [ab] [!a]* ?(a) *(a) +(a) @(a|b) !(a) !(a)b a!(b) *(ab|a) +(a|b)b !(*(a)) +(!(a)) !(!(a|b)) ?(a)?(b) *(a)*(b) @(|a)b !(a*)!(b) +(+(a)b) *(?)a @(a*|*b) *(!(b)a) !(?(a)b)";
 const TEXTS: &[u8] = b",a,b,aa,ab,ba,bb,aaa,aab,aba,abb,baa,bab,bba,bbb";
-
-/// What stands before the first such byte, and behind it.
-fn cut(text: &[u8], at: u8) -> (&[u8], &[u8]) {
-    match text.iter().position(|byte| *byte == at) {
-        Some(end) => (&text[..end], &text[end + 1..]),
-        None => (text, &text[text.len()..]),
-    }
-}
-
-/// A pattern without quoted bytes.
-fn pattern(alloc: Global, text: &[u8]) -> Result<Pattern, Memory> {
-    let mut marks = Vec::new(alloc);
-    for byte in text {
-        marks.push(Marked {
-            byte: *byte,
-            quoted: false,
-        })?;
-    }
-    Pattern::make(alloc, marks.as_slice())
-}
 
 /// Whether both ways say the same of each text.
 fn agree(p: &Pattern) -> Result<bool, Memory> {
@@ -50,16 +30,5 @@ fn both_ways_agree(rt: HostRuntime) -> Result<(), Fail> {
         patterns = rest;
         assert!(rt; agree(&pattern(rt.alloc(), text)?)?);
     }
-    Ok(())
-}
-
-#[test]
-fn limits(rt: HostRuntime) -> Result<(), Fail> {
-    let alloc = rt.alloc();
-    let row = [b'?'; 65];
-    let p = pattern(alloc, &row[..64])?;
-    assert!(rt; plain_matches(&p, &row[..64]) == Some(true));
-    assert!(rt; plain_matches(&p, &row).is_none());
-    assert!(rt; plain_matches(&pattern(alloc, &row)?, b"").is_none());
     Ok(())
 }
