@@ -4,19 +4,25 @@ ghost use Rattle.var_store.specs.Faults.{no_faults, both, first_fault};
 use ksh_base::Memory;
 use thiserror::Error;
 
-/// Why a call on the variables is refused.
+/// Why a call on the variables is refused. Where several apply, the first of them is answered.
 #[derive(Clone, Copy, Debug, PartialEq, Eq, Error)]
 pub enum VarFault {
+    /// A member behind a path that has no row, or one that isn't set.
     #[error("no parent")]
     NoParent,
+    /// The row, or one whose path is a front of its path, is read only; to unset, one below it too.
     #[error("is read only")]
     ReadOnly,
+    /// A subscript behind a compound with members, an instance or a reference.
     #[error("not an array")]
     NotArray,
+    /// An index above 4,194,303.
     #[error("subscript out of range")]
     SubscriptRange,
+    /// A reference whose target's path has more than 64 steps.
     #[error("not a name")]
     NotAName,
+    /// A row or a step of a kind that the call doesn't take, or a text that is no number for an integer.
     #[error("wrong kind")]
     WrongKind,
     #[error("out of memory")]

@@ -21,7 +21,8 @@ use std::sync::ledger::Ledger;
 use tree_steps::Steps;
 use var_types::{Attrs, Cell, Cells, HookKind, Path, Step, Value};
 
-/// The variables of a shell. `H` is the kind of a discipline's function.
+/// The variables of a shell. `H` is the kind of a discipline's function. A call that is refused, for want of memory too,
+/// has changed nothing.
 #[derive(Drop)]
 pub struct VarStore<H> {
     rows: RowList<H>,
@@ -56,14 +57,14 @@ impl<H> VarStore<H> {
         self.rows.find_row(path)
     }
 
-    /// The subscripts one step below a path, in order; a text or a number has `0` alone.
+    /// The subscripts one step below a path, in order; a text or a number has `0` alone. `ReadOnly` is no fault here.
     pub fn subscripts(&self, path: &Path) -> Result<Vec<Text>, VarFault>
         ensures { AnswersBy (λ v. v.items) result (subscripts_of self.now.0 path.now) }
     {
         subscripts(self.alloc, &self.rows, path)
     }
 
-    /// The members one step below a compound or an instance, in order.
+    /// The members one step below a compound or an instance, in order. `ReadOnly` is no fault here.
     pub fn members(&self, path: &Path) -> Result<Vec<Name>, VarFault>
         ensures { AnswersBy (λ v. v.items) result (members_of self.now.0 path.now) }
     {
@@ -107,7 +108,8 @@ impl<H: Drop> VarStore<H> {
         })
     }
 
-    /// Puts a text into a row, which its attributes shape.
+    /// Puts a text into a row, which its attributes shape. A row that is missing is made, and so are the arrays that it
+    /// stands in; an indexed array stands for its element 0.
     pub fn put<L: Ledger>(
         &mut self,
         path: &Path,
@@ -119,7 +121,7 @@ impl<H: Drop> VarStore<H> {
         self.put_text(path, value)
     }
 
-    /// Adds a text behind that of a row, or a number to its number.
+    /// Adds a text behind that of a row, or a number to its number; else as `put`.
     pub fn append<L: Ledger>(
         &mut self,
         path: &Path,
@@ -131,14 +133,15 @@ impl<H: Drop> VarStore<H> {
         self.append_text(path, value)
     }
 
-    /// Takes away a row and all rows below it.
+    /// Takes away a row and all rows below it. Without a row there is nothing to refuse.
     pub fn unset<L: Ledger>(&mut self, path: &Path, _steps: &mut Steps<L>) -> Result<(), VarFault>
         ensures { Changes result self.old self.new (unset_of self.old path.now) }
     {
         self.unset_row(path)
     }
 
-    /// Gives a row these attributes and this value. It keeps its hooks.
+    /// Gives a row these attributes and this value. It keeps its hooks. A row that is read only is refused only where it
+    /// would change by more than being exported.
     pub fn declare<L: Ledger>(
         &mut self,
         path: &Path,
@@ -151,7 +154,7 @@ impl<H: Drop> VarStore<H> {
         self.declare_row(path, attrs, value)
     }
 
-    /// Gives a row a discipline's function, or takes one from it.
+    /// Gives a row a discipline's function, or takes one from it. A row is made for a function that is given.
     pub fn hook<L: Ledger>(
         &mut self,
         path: &Path,
