@@ -166,11 +166,7 @@ fn all_on_map<L: Ledger>(alloc: Global, rows: &mut Rows<L>, call: Call) -> Resul
 }
 
 /// Prints the microseconds of one call.
-fn report<L: Ledger>(
-    rt: &(impl Print + AllocGlobal + Clock),
-    blank: Blank,
-    many: u32,
-) -> Result<()>
+fn report<L: Ledger>(rt: &(impl Print + AllocGlobal + Clock), blank: Blank, many: u32) -> Result<()>
     requires name { blank.name ≡ L.name }
     requires parts { blank.parts ≡ L.parts }
     requires some { 0 < L.parts }

@@ -8,8 +8,6 @@ mod session;
 mod telling;
 
 use session::Session;
-use std::alloc::AllocGlobal;
-use std::io::{Print, ReadLines};
 use std::marker::Brand;
 use std::sync::ledger::{Blank, Ledger};
 
@@ -28,7 +26,7 @@ fn run<L: Ledger>(rt: HostRuntime, blank: Blank) -> anyhow::Result<()>
             println!(rt; "{text}")?;
         } else {
             let answer = session.call(alloc, text)?;
-            println!(rt; "{text}: {}", str::from_utf8(answer.bytes())?)?;
+            println!(rt; "{text}: {}", std::str::from_utf8(answer.bytes())?)?;
         }
     }
     Ok(())

@@ -2,7 +2,10 @@
 ghost use Rattle.std.specs.Prelude.{◌≡◌, ◌<◌};
 
 use crate::reading::{attributes, cut, hook_kind, path, value};
-use crate::telling::{add_attributes, add_number, add_path, add_steps, cell_text, done, names, refused, texts};
+use crate::telling::{
+    add_attributes, add_number, add_path, add_steps, cell_text, done, names, refused, texts,
+    unresolved,
+};
 use anyhow::Result;
 use ksh_attrs::{joined, show, with_widths};
 use ksh_base::{Shared, Text};
@@ -128,7 +131,7 @@ impl<L: Ledger> Session<L> {
                 add_steps(alloc, &mut out, found.rest)?;
                 Ok(out)
             }
-            Err(fault) => refused(alloc, fault),
+            Err(fault) => unresolved(alloc, fault),
         }
     }
 
@@ -150,9 +153,7 @@ impl<L: Ledger> Session<L> {
                 self.store
                     .hook(row, hook_kind(kind), Some(function), &mut self.steps)
             }
-            "unhook" => self
-                .store
-                .hook(row, hook_kind(rest), None, &mut self.steps),
+            "unhook" => self.store.hook(row, hook_kind(rest), None, &mut self.steps),
             "typeset" => self.typeset(alloc, row, rest)?,
             _ => {
                 let (word, held) = cut(rest, ' ');
@@ -164,19 +165,16 @@ impl<L: Ledger> Session<L> {
     }
 
     /// Declares a row with further attributes, and puts its text again.
-    fn typeset(
-        &mut self,
-        alloc: Global,
-        row: &Path,
-        words: &str,
-    ) -> Result<Result<(), VarFault>> {
+    fn typeset(&mut self, alloc: Global, row: &Path, words: &str) -> Result<Result<(), VarFault>> {
         let text = self.shown(alloc, row)?;
         let before = match self.store.get(row) {
             Some(cell) => cell.attrs,
             None => Attrs::none(),
         };
         let attrs = with_widths(&joined(&before, &attributes(words)), text.bytes());
-        let declared = self.store.declare(row, attrs, Value::Unset, &mut self.steps);
+        let declared = self
+            .store
+            .declare(row, attrs, Value::Unset, &mut self.steps);
         match declared {
             Ok(()) => Ok(self.store.put(row, text.bytes(), &mut self.steps)),
             Err(fault) => Ok(Err(fault)),

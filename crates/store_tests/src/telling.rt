@@ -1,7 +1,9 @@
 //! Answers as texts.
 use anyhow::Result;
 use ksh_base::{Name, Shared, Text};
+use ksh_nameref::RefFault;
 use std::alloc::Global;
+use var_store::VarFault;
 use var_types::{Attrs, Cell, HookSet, Path, Step, Value};
 
 /// Adds a number in decimal.
@@ -172,7 +174,7 @@ pub fn names(alloc: Global, names: &[Name]) -> Result<Text> {
 }
 
 /// `ok`, or the fault.
-pub fn done<E: core::fmt::Display>(alloc: Global, result: Result<(), E>) -> Result<Text> {
+pub fn done(alloc: Global, result: Result<(), VarFault>) -> Result<Text> {
     match result {
         Ok(()) => Ok(Text::of(alloc, b"ok")?),
         Err(fault) => refused(alloc, fault),
@@ -180,7 +182,13 @@ pub fn done<E: core::fmt::Display>(alloc: Global, result: Result<(), E>) -> Resu
 }
 
 /// The fault.
-pub fn refused<E: core::fmt::Display>(alloc: Global, fault: E) -> Result<Text> {
+pub fn refused(alloc: Global, fault: VarFault) -> Result<Text> {
+    let text = format!(in alloc; "{fault}")?;
+    Ok(Text::of(alloc, text.as_bytes())?)
+}
+
+/// Why a path stands for nothing.
+pub fn unresolved(alloc: Global, fault: RefFault) -> Result<Text> {
     let text = format!(in alloc; "{fault}")?;
     Ok(Text::of(alloc, text.as_bytes())?)
 }
