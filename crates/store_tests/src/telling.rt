@@ -174,8 +174,8 @@ pub fn names(alloc: Global, names: &[Name]) -> Result<Text> {
 }
 
 /// `ok`, or the fault.
-pub fn done(alloc: Global, result: Result<(), VarFault>) -> Result<Text> {
-    match result {
+pub fn done(alloc: Global, answer: Result<(), VarFault>) -> Result<Text> {
+    match answer {
         Ok(()) => Ok(Text::of(alloc, b"ok")?),
         Err(fault) => refused(alloc, fault),
     }
