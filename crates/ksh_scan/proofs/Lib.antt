@@ -1,3 +1,4 @@
+mod Arithmetic
 mod Openings
 mod Ends
 mod Sees

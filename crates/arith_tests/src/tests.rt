@@ -1,7 +1,7 @@
 mod bases;
 mod depth;
 
-use arith_tree::ArithPath;
+use arith_tree::{ArithExpr, ArithPath};
 use ksh_arith::{ArithRefused, VarAnswer, VarAsk, eval_arith, parse_arith};
 use ksh_base::{Memory, Text};
 use std::alloc::Global;
@@ -14,7 +14,7 @@ pub(crate) enum End {
     Bad(usize),
     TooDeep(usize),
     Memory,
-    // A fault of the evaluation.
+    // A fault of the evaluation, or no number.
     Fault,
 }
 
@@ -23,6 +23,15 @@ fn refused(refused: ArithRefused) -> End {
         ArithRefused::Bad(at) => End::Bad(at),
         ArithRefused::TooDeep(at) => End::TooDeep(at),
         ArithRefused::Memory => End::Memory,
+    }
+}
+
+// The number that the text writes.
+pub(crate) fn read(alloc: Global, text: &[u8]) -> End {
+    match parse_arith(alloc, text) {
+        Ok(ArithExpr::Number(value)) => End::Value(value),
+        Ok(_) => End::Fault,
+        Err(why) => refused(why),
     }
 }
 
