@@ -1,4 +1,4 @@
-mod Arithmetic
+pub mod Expressions
 mod Openings
 mod Ends
 mod Sees

@@ -1,6 +1,7 @@
 -- Closing what was opened last.
-use Rattle.std.specs.Prelude.{◌≡◌, ℕ, true, List, [], ◌∷◌, ◌++◌, Option, Some, None, MatchOption}
-use Rattle.std.proofs.Common.{refl, sym, ◌∙◌, ap}
+use Rattle.std.specs.Prelude.{◌≡◌, ℕ, ◌-◌, true, length, slice_get, List, [], ◌∷◌, ◌++◌, Option, Some, None, MatchOption}
+use Rattle.std.proofs.Common.{refl, sym, ◌∙◌, ap, arith}
+use Rattle.std.proofs.lemmas.List.{length-append}
 use Rattle.ksh_scan.specs.declared.opening.Opening.{Opening}
 use Rattle.ksh_scan.specs.Openings.{innermost, later_part, without_last}
 
@@ -13,15 +14,14 @@ pub popped : (r : Option Opening) (old new : List Opening) → MatchOption r ((o
 popped (Some o) old new h = sym (ap without_last h ∙ last_gone o new)
 popped None old new h = h.1 ∙ ap without_last (sym h.0)
 
+at_end : (o : Opening) (openings : List Opening) → slice_get (openings ++ o ∷ []) (length openings) ≡ Some o
+at_end o [] = refl
+at_end o (p ∷ openings) = at_end o openings
+
 last_one : (o : Opening) (openings : List Opening) → innermost (openings ++ o ∷ []) ≡ Some o
-last_one o [] = refl
-last_one o (p ∷ []) = refl
-last_one o (p ∷ q ∷ openings) = last_one o (q ∷ openings)
+last_one o openings =
+    let before : length (openings ++ o ∷ []) - 1 ≡ length openings = omega (arith, length-append openings (o ∷ [])) in
+    ap (slice_get (openings ++ o ∷ [])) before ∙ at_end o openings
 
-abbrev pub begun : ℕ → Option Opening → List Opening → List Opening
-begun at None rest = rest
-begun at (Some o) rest = rest ++ record o { part = at; is_later = true } ∷ []
-
-pub part_begun : (at : ℕ) (r : Option Opening) (old rest : List Opening) → MatchOption r ((old ≡ []) × (rest ≡ [])) (λ last. old ≡ rest ++ last ∷ []) → begun at r rest ≡ later_part at (innermost old) old
-part_begun at (Some o) old rest h = rw (h, last_one o rest, last_gone o rest) refl
-part_begun at None old rest h = rw (h.0, h.1) refl
+pub part_begun : (at : ℕ) (last : Opening) (old rest new : List Opening) → old ≡ rest ++ last ∷ [] → new ≡ rest ++ record last { part = at; is_later = true } ∷ [] → new ≡ later_part at (innermost old) old
+part_begun at last old rest new e made = rw (e, last_one last rest, last_gone last rest) made

@@ -32,10 +32,6 @@ expands (b ∷ bs) = is_expanding b || expands bs
 abbrev pub is_join : ℕ → ℕ → Bool
 is_join b c = b == 92 && c == 10
 
-abbrev pub has_backslash : List ℕ → Bool
-has_backslash [] = false
-has_backslash (b ∷ bs) = b == 92 || has_backslash bs
-
 -- the text without the backslashes that stand before a newline, and those newlines
 abbrev pub joined : List ℕ → List ℕ
 joined [] = []

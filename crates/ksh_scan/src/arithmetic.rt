@@ -1,10 +1,10 @@
 //! Arithmetic texts that are parsed with the script.
-ghost use Rattle.std.specs.Prelude.{◌≡◌, ◌≤◌, false, IfOk, IfSome, length};
+ghost use Rattle.std.specs.Prelude.{◌≡◌, ◌≤◌, IfOk, IfSome, length};
 ghost use Rattle.ksh_arith.specs.Grammar.{is_blank};
 ghost use Rattle.ksh_lexer.specs.Place.{longest_text};
 ghost use Rattle.ksh_scan.specs.Openings.{innermost};
 ghost use Rattle.ksh_scan.specs.Seeing.{text_of};
-ghost use Rattle.ksh_scan.specs.Arithmetic.{Told, arithmetic_fault, bad_arithmetic, ends_arithmetic, expands, expression_fault, fault_within, has_backslash, in_text, is_all_blank, is_close, is_expanding, is_join, is_loop, joined, place_of};
+ghost use Rattle.ksh_scan.specs.Arithmetic.{Told, arithmetic_fault, bad_arithmetic, ends_arithmetic, expands, expression_fault, fault_within, in_text, is_all_blank, is_close, is_expanding, is_join, is_loop, joined, place_of};
 
 use crate::after::slice;
 use crate::opening::{innermost, is_separator};
@@ -50,17 +50,6 @@ fn is_all_blank(text: &[u8]) -> bool
         }
     }
     true
-}
-
-fn has_backslash(text: &[u8]) -> bool
-    ensures { result ≡ has_backslash text.now }
-{
-    for byte in text {
-        if *byte == b'\\' {
-            return true;
-        }
-    }
-    false
 }
 
 fn is_join(first: u8, second: u8) -> bool
@@ -122,8 +111,7 @@ fn expression_fault(
     optional: bool,
     text: &[u8],
 ) -> Result<Option<(SyntaxKind, usize)>, Memory>
-    ensures fault { IfOk result (λ told. told ≡ expression_fault optional text.now) }
-    ensures within { IfOk result (λ told. IfSome told (λ (t : Told). t.1 ≤ length text.now)) }
+    ensures { IfOk result (λ told. told ≡ expression_fault optional text.now) }
 {
     if optional && is_all_blank(text) {
         return Ok(None);
@@ -147,9 +135,6 @@ fn arithmetic_fault(
 {
     if expands(text) {
         return Ok(None);
-    }
-    if !has_backslash(text) {
-        return expression_fault(alloc, optional, text);
     }
     let joined = joined(alloc, text)?;
     match expression_fault(alloc, optional, joined.bytes())? {
@@ -199,6 +184,7 @@ impl<'a> State<'a> {
         self.fault_within(alloc, mode, seen.token.from)
     }
 
+    #[tactic(auto, using(crate::proofs::Expressions::slice_small))]
     fn fault_within(
         &self,
         alloc: Global,

@@ -96,7 +96,8 @@ impl<'a> Scanner<'a> {
         self.marks.clear();
         match self.reading.take(mode, seen.kind, &mut self.marks)? {
             Next::Taken => {
-                if let Some((kind, byte)) = self.state.bad_arithmetic(alloc, mode, seen)? {
+                let bad = self.state.bad_arithmetic(alloc, mode, seen)?;
+                if let Some((kind, byte)) = bad {
                     return Err(self.fault(kind, byte));
                 }
                 self.state.read(alloc, seen, self.marks.as_slice())?;
