@@ -19,7 +19,7 @@ returns-in-TooDeep c front events h =
 
 pub returns-in_ok-kind-in-Refused : goal.returns-in_ok-kind-in-Refused
 returns-in_ok-kind-in-Refused c front events h =
-    takes_refused front events c.args.mode c.args.seen c.remember.new.self.state c.remember.new.self.state c.args.self.now.reading.left.items c.remember.new.self.before.left.items
+    takes_refused front events c.args.mode c.args.seen c.args.self.now.state c.remember.new.self.state c.remember.new.self.state c.args.self.now.reading.left.items c.remember.new.self.before.left.items
     c.take.new.self.left.items [] c.take.new.marks.items c.take.new.marks.items c.unread_by-unread.result
     (c.in_ok-kind-in-Refused.kind, c.in_ok-kind-in-Refused.byte) c.fault-in-Refused.result h (search rules) (search rules) (search rules) (search rules)
     c.in_ok-kind-in-Refused.ensures (search rules)
