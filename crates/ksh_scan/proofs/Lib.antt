@@ -1,3 +1,4 @@
+pub mod Expressions
 mod Openings
 mod Ends
 mod Sees

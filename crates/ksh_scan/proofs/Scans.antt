@@ -1,5 +1,5 @@
 -- What a scanner's steps show.
-use Rattle.std.specs.Prelude.{◌≡◌, ◌<◌, ◌≤◌, ℕ, Bool, List, [], ◌∷◌, ◌++◌, map, length, Result, Ok, Err}
+use Rattle.std.specs.Prelude.{◌≡◌, ◌<◌, ◌≤◌, ℕ, Bool, List, [], ◌∷◌, ◌++◌, map, length, Some, None, Result, Ok, Err}
 use Rattle.std.proofs.Common.{refl, sym, subst, arith}
 use Rattle.std.proofs.Math.Nat.{lt_of_not-le}
 use Rattle.ksh_lexer.specs.declared.fault.SyntaxFault.{SyntaxFault}
@@ -21,7 +21,8 @@ use Rattle.ksh_scan.specs.declared.refusal.Unread.TheVariants.{Word}
 use Rattle.ksh_scan.specs.declared.see.Seen.{Seen}
 use Rattle.ksh_scan.specs.declared.state.State.{State}
 use Rattle.ksh_scan.specs.After.{after}
-use Rattle.ksh_scan.specs.Scan.{first, long, of_text, of_token, no_script, nothing_read, too_deep, one_more, start, HasFault, IsFaultBehind, IsRefused, IsText, IsOnly, IsTold, IsToldBy, IsUnread, Told, Spelled, unread_by, word_fault}
+use Rattle.ksh_scan.specs.Arithmetic.{Told, bad_arithmetic}
+use Rattle.ksh_scan.specs.Scan.{first, long, of_text, of_token, no_expression, no_script, nothing_read, too_deep, one_more, start, HasFault, IsFaultBehind, IsRefused, IsText, IsOnly, IsTold, IsToldBy, IsUnread, Spelled, unread_by, word_fault}
 use Rattle.ksh_scan.specs.Seeing.{text_of, Sees}
 use Rattle.ksh_scan.specs.Steps.{IsAt, StepsOn, TakesOn}
 
@@ -32,13 +33,21 @@ told_word u front s n names others assignments told e a b c f = subst (λ v. IsT
 
 -- the token was read with some marks, and none stood before it
 pub takes_taken : (front : List Token) (events : List Event) (m : Mode) (n : Seen) (s s' : State) (old left : Left) (before marks : List Mark) → before ≡ []
-    → HasRead front old events → Goes (m, n.kind) old left before marks Taken → s' ≡ after s n marks → TakesOn front events m n s left s' marks (Ok n)
-takes_taken front events m n s s' old left before marks none h g e =
+    → HasRead front old events → Goes (m, n.kind) old left before marks Taken → bad_arithmetic s m n ≡ None → s' ≡ after s n marks → TakesOn front events m n s left s' marks (Ok n)
+takes_taken front events m n s s' old left before marks none h g fine e =
     let same : g.0 ≡ marks = passed_all before g.0 marks none g.1 in
-    (refl, e, subst (λ ms. HasRead (front ++ (m, n.kind) ∷ []) left ((events ++ map Marked ms) ++ Took (m, n.kind) ∷ [])) same (g.2 front events h))
+    (refl, e, fine, subst (λ ms. HasRead (front ++ (m, n.kind) ∷ []) left ((events ++ map Marked ms) ++ Took (m, n.kind) ∷ [])) same (g.2 front events h))
   where
     passed_all : (before passed all : List Mark) → before ≡ [] → all ≡ before ++ passed → passed ≡ all
     passed_all before passed all e f = sym (subst (λ xs. all ≡ xs ++ passed) e f)
+
+-- the arithmetic text that the token ends is no expression
+pub takes_no_expression : (front : List Token) (events : List Event) (m : Mode) (n : Seen) (s s' : State) (old left : Left) (before marks marks' : List Mark) (told : Told) (r : SyntaxRefused)
+    → HasRead front old events → Goes (m, n.kind) old left before marks Taken → bad_arithmetic s m n ≡ Some told → r ≡ Fault (fault_at (text_of s) told.0 told.1)
+    → TakesOn front events m n s left s' marks' (Err r)
+takes_no_expression front events m n s s' old left before marks marks' told r h g bad e =
+    let goes : IsLive (front ++ (m, n.kind) ∷ []) = live (front ++ (m, n.kind) ∷ []) left ((events ++ map Marked g.0) ++ Took (m, n.kind) ∷ []) (g.2 front events h) in
+    subst (λ q. TakesOn front events m n s left s' marks' (Err q)) (sym e) (no_expression told goes bad refl)
 
 pub takes_deep : (front : List Token) (events : List Event) (m : Mode) (n : Seen) (s s' : State) (old left : Left) (before marks marks' : List Mark) (r : SyntaxRefused)
     → HasRead front old events → Goes (m, n.kind) old left before marks TooDeep → r ≡ Fault (fault_at (text_of s) fault.TooDeep n.token.from)
@@ -65,9 +74,9 @@ steps text front events m n s s' s'' old left marks (Ok read) at only sees takes
     subst (λ k. StepsOn text front events s left s'' marks (Ok k)) (sym same) (
       m,
       record {
-        read = takes.2;
+        read = takes.3;
         spelled = subst (λ z. Spelled text z (front ++ (m, n.kind) ∷ []) ((events ++ map Marked marks) ++ Took (m, n.kind) ∷ [])) (sym takes.1)
-            (one_more m n marks s s' front events at.spelled sees);
+            (one_more m n marks s s' front events at.spelled sees takes.2);
       },
     )
 steps text front events m n s s' s'' old left marks (Err (Fault f)) at only sees takes = of_token m n s' only sees takes

@@ -1,5 +1,5 @@
 -- What becomes of the state by a token that was read.
-use Rattle.std.specs.Prelude.{ℕ, suc, ◌+◌, ◌-◌, Bool, true, false, not, ◌&&◌, ◌==◌, List, [], ◌∷◌, ◌++◌, take, drop, Option, Some, None, option_map, if◌then◌else◌}
+use Rattle.std.specs.Prelude.{ℕ, suc, ◌+◌, Bool, true, false, not, ◌&&◌, ◌==◌, List, [], ◌∷◌, ◌++◌, take, Option, Some, None, option_map, if◌then◌else◌}
 use Rattle.ksh_lexer.specs.declared.here.Body.{Body}
 use Rattle.ksh_lexer.specs.declared.here.HereDocument.{HereDocument}
 use Rattle.ksh_lexer.specs.declared.kind.Token.{Token}
@@ -19,12 +19,8 @@ use Rattle.ksh_scan.specs.declared.opening.Opening.{Opening}
 use Rattle.ksh_scan.specs.declared.see.Seen.{Seen}
 use Rattle.ksh_scan.specs.declared.state.Source.{Source}
 use Rattle.ksh_scan.specs.declared.state.State.{State}
-use Rattle.ksh_scan.specs.Openings.{innermost, opened_by, told_all}
-use Rattle.ksh_scan.specs.Seeing.{text_of}
-
--- the bytes from one place to another
-abbrev pub slice : List ℕ → ℕ → ℕ → List ℕ
-slice text from to = take (to - from) (drop from text)
+use Rattle.ksh_scan.specs.Openings.{innermost, opened_by, parted_by, told_all}
+use Rattle.ksh_scan.specs.Seeing.{slice, text_of}
 
 -- how many bytes stand before the first `<`
 abbrev pub before_less : List ℕ → ℕ
@@ -83,7 +79,7 @@ entered (Some b) s = record s { source = body_source (text_of s) b; outer = s.ou
 abbrev pub source_after : Option HereOperator → Seen → List Mark → Source → Source
 source_after here n marks s = record s {
   lexer = awaiting (word_by n.token.kind s.lexer.0 n.token here (innermost s.openings)) s.lexer;
-  openings = told_all marks (record { opened = opened_by n.token.kind here; byte = n.token.from }) s.openings;
+  openings = parted_by n.kind n.token.to (told_all marks (record { opened = opened_by n.token.kind here; byte = n.token.from; part = n.token.to; is_later = false }) s.openings);
 }
 
 abbrev pub after : State → Seen → List Mark → State

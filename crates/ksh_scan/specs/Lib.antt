@@ -1,4 +1,5 @@
 pub mod After
+pub mod Arithmetic
 pub mod Openings
 pub mod Scan
 pub mod Seeing

@@ -1,7 +1,9 @@
 -- What is open in a text.
-use Rattle.std.specs.Prelude.{ℕ, ◌-◌, Bool, true, false, ◌||◌, List, [], ◌∷◌, ◌++◌, length, slice_get, Option, Some, None}
+use Rattle.std.specs.Prelude.{ℕ, ◌-◌, Bool, true, false, ◌||◌, List, [], ◌∷◌, ◌++◌, length, slice_get, Option, Some, None, if◌then◌else◌}
 use Rattle.ksh_lexer.specs.declared.kind.TokenKind.{TokenKind}
 use Rattle.ksh_lexer.specs.declared.kind.TokenKind.TheVariants as token
+use Rattle.ksh_syntax.specs.declared.kind.Kind.{Kind}
+use Rattle.ksh_syntax.specs.declared.kind.Kind.TheVariants as kind
 use Rattle.ksh_syntax.specs.declared.part.Mark.{Mark}
 use Rattle.ksh_syntax.specs.declared.part.Mark.TheVariants as mark
 use Rattle.ksh_scan.specs.declared.opening.HereOperator.{HereOperator}
@@ -47,3 +49,16 @@ told _ o openings = openings
 abbrev pub told_all : List Mark → Opening → List Opening → List Opening
 told_all [] o openings = openings
 told_all (m ∷ marks) o openings = told_all marks o (told m o openings)
+
+-- another part of what was opened last begins there
+abbrev pub later_part : ℕ → Option Opening → List Opening → List Opening
+later_part at None openings = openings
+later_part at (Some o) openings = without_last openings ++ record o { part = at; is_later = true } ∷ []
+
+abbrev pub is_separator : Kind → Bool
+is_separator kind.Separator = true
+is_separator _ = false
+
+-- a separator ends a part
+abbrev pub parted_by : Kind → ℕ → List Opening → List Opening
+parted_by k at openings = if is_separator k then later_part at (innermost openings) openings else openings

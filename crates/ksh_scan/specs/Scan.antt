@@ -21,6 +21,7 @@ use Rattle.ksh_scan.specs.declared.refusal.Unread.TheVariants.{End, Word, Open, 
 use Rattle.ksh_scan.specs.declared.see.Seen.{Seen}
 use Rattle.ksh_scan.specs.declared.state.State.{State}
 use Rattle.ksh_scan.specs.After.{after}
+use Rattle.ksh_scan.specs.Arithmetic.{Told, bad_arithmetic}
 use Rattle.ksh_scan.specs.Openings.{innermost}
 use Rattle.ksh_scan.specs.Seeing.{text_of, Sees}
 
@@ -32,11 +33,12 @@ start text = record {
   command_word = None;
 }
 
--- these tokens are the text's from its first byte to the state's place, of which these events are told
+-- these tokens are the text's from its first byte to the state's place, of which these events are told; the arithmetic texts that
+-- they end, where parsed with the script, are expressions
 pub data Spelled (text : List ℕ) : State → List Token → List Event → Type 0 where
   nothing_read : Spelled text (start text) [] []
   one_more : (m : Mode) (n : Seen) (marks : List Mark) (s s' : State) (front : List Token) (events : List Event) → Spelled text s front events → Sees s m (Ok n) s'
-      → Spelled text (after s' n marks) (front ++ (m, n.kind) ∷ []) ((events ++ map Marked marks) ++ Took (m, n.kind) ∷ [])
+      → bad_arithmetic s' m n ≡ None → Spelled text (after s' n marks) (front ++ (m, n.kind) ∷ []) ((events ++ map Marked marks) ++ Took (m, n.kind) ∷ [])
 
 -- the text is a script
 abbrev pub IsText : List ℕ → Type 0
@@ -91,10 +93,6 @@ unread_kind _ = Other
 abbrev pub unread_by : Seen → Unread
 unread_by n = if is_end n.token.kind then End else unread_kind n.kind
 
--- the kind of a fault, and its byte
-abbrev pub Told : Type 0
-Told = SyntaxKind × ℕ
-
 -- a substitution that was opened last isn't closed; else the text ends too early
 abbrev pub end_by : Opened → ℕ → ℕ → Told
 end_by Substitution byte end = (fault.UnclosedSubstitution, byte)
@@ -134,17 +132,20 @@ IsToldBy Other front s n told = told ≡ (fault.UnexpectedToken, n.token.from)
 abbrev pub IsTold : List Token → State → Seen → Told → Type 0
 IsTold front s n told = IsToldBy (unread_by n) front s n told
 
--- the fault of a token that isn't read: no script goes on with it, or only with too many openings
+-- the fault of a token that isn't read: no script goes on with it, or only with too many openings, or the arithmetic text that it
+-- ends is no expression
 pub data IsUnread (front : List Token) (s : State) (m : Mode) (n : Seen) (f : SyntaxFault) : Type 0 where
   no_script : (told : Told) → (IsLive (front ++ (m, n.kind) ∷ []) → ⊥) → IsTold front s n told → f ≡ fault_at (text_of s) told.0 told.1 → IsUnread front s m n f
   too_deep : (IsLiveWithin (front ++ (m, n.kind) ∷ []) → ⊥) → MayCome front n.kind → f ≡ fault_at (text_of s) fault.TooDeep n.token.from → IsUnread front s m n f
+  no_expression : (told : Told) → IsLive (front ++ (m, n.kind) ∷ []) → bad_arithmetic s m n ≡ Some told → f ≡ fault_at (text_of s) told.0 told.1 → IsUnread front s m n f
 
 -- the fault of what comes behind these tokens: of the text, or of the token
 pub data IsFaultBehind (front : List Token) (s : State) (f : SyntaxFault) : Type 0 where
   of_text : (m : Mode) (s' : State) → IsOnly front m → Sees s m (Err f) s' → IsFaultBehind front s f
   of_token : (m : Mode) (n : Seen) (s' : State) → IsOnly front m → Sees s m (Ok n) s' → IsUnread front s' m n f → IsFaultBehind front s f
 
--- The first fault of a text: it is too long, or what was read before the fault can be completed, and what comes then can't.
+-- The first fault of a text: it is too long, or what was read before the fault can be completed, and what comes then can't, or
+-- ends an arithmetic text that is no expression.
 pub data HasFault (text : List ℕ) (f : SyntaxFault) : Type 0 where
   long : longest_text < length text → f ≡ too_long text → HasFault text f
   first : (s : State) (front : List Token) (events : List Event) → length text ≤ longest_text → Spelled text s front events → IsLive front → IsFaultBehind front s f → HasFault text f

@@ -1,5 +1,5 @@
 -- The token that a script's reader sees next, and what becomes of the state by it.
-use Rattle.std.specs.Prelude.{◌≡◌, ℕ, ◌≤◌, length, Bool, true, false, List, [], ◌∷◌, ◌++◌, Option, Some, None, Result, Ok, Err, if◌then◌else◌}
+use Rattle.std.specs.Prelude.{◌≡◌, ℕ, ◌≤◌, ◌-◌, length, take, drop, Bool, true, false, List, [], ◌∷◌, ◌++◌, Option, Some, None, Result, Ok, Err, if◌then◌else◌}
 use Rattle.ksh_lexer.specs.declared.fault.SyntaxFault.{SyntaxFault}
 use Rattle.ksh_lexer.specs.declared.here.Body.{Body}
 use Rattle.ksh_lexer.specs.declared.kind.Token.{Token}
@@ -26,6 +26,10 @@ use Rattle.ksh_scan.specs.Openings.{in_backquotes, innermost}
 
 abbrev pub text_of : State → List ℕ
 text_of s = s.source.lexer.0
+
+-- the bytes from one place to another
+abbrev pub slice : List ℕ → ℕ → ℕ → List ℕ
+slice text from to = take (to - from) (drop from text)
 
 abbrev pub byte_of : Option Opening → ℕ
 byte_of None = 0

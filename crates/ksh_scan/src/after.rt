@@ -1,11 +1,11 @@
 //! What becomes of the state by a token that was read.
 ghost use Rattle.std.specs.Prelude.{◌≡◌, ◌≤◌, Some, None, OnOk, MatchOption, length};
 ghost use Rattle.ksh_lexer.specs.Place.{longest_text};
-ghost use Rattle.ksh_scan.specs.After.{after, awaiting, before_less, body_source, command_word, entered, operator_of, operator_within, slice, source_after, tells_command_word, word_by};
+ghost use Rattle.ksh_scan.specs.After.{after, awaiting, before_less, body_source, command_word, entered, operator_of, operator_within, source_after, tells_command_word, word_by};
 ghost use Rattle.ksh_scan.specs.Openings.{innermost};
-ghost use Rattle.ksh_scan.specs.Seeing.{text_of, IsWithin};
+ghost use Rattle.ksh_scan.specs.Seeing.{slice, text_of, IsWithin};
 
-use crate::opening::{HereOperator, Opened, Opening, innermost, opened_by, tell};
+use crate::opening::{HereOperator, Opened, Opening, innermost, opened_by, part, tell};
 use crate::see::Seen;
 use crate::state::{Source, State};
 use ksh_base::{Items, Memory};
@@ -15,7 +15,7 @@ use std::alloc::Global;
 use std::mem::replace;
 
 /// The bytes of a text from one place to another, as far as there are any.
-fn slice(text: &[u8], from: usize, to: usize) -> &[u8]
+pub(crate) fn slice(text: &[u8], from: usize, to: usize) -> &[u8]
     ensures { result.now ≡ slice text.now from to }
 {
     let behind = &text[from.min(text.len())..];
@@ -134,8 +134,11 @@ impl<'a> Source<'a> {
         let opening = Opening {
             opened: opened_by(seen.token.kind, here),
             byte: seen.token.from as u32,
+            part: seen.token.to as u32,
+            is_later: false,
         };
-        tell(&mut self.openings, marks, opening)
+        tell(&mut self.openings, marks, opening)?;
+        part(&mut self.openings, seen.kind, seen.token.to as u32)
     }
 }
 

@@ -7,8 +7,9 @@ use crate::scanner::Scanner;
 use std::alloc::Global;
 
 /// Reads a text to its end. `Fault` exactly with its first fault: what stands before it can be completed to a script, and what
-/// comes there can't. Aliases aren't looked up, and arithmetic texts aren't parsed. Takes memory, time that is linear in the
-/// text, and a stack that doesn't depend on it. A text has fewer tokens than the loop has turns.
+/// comes there can't, or ends an arithmetic text that is no expression. Aliases aren't looked up. Takes memory, time that is linear
+/// in the text, and a stack that depends on it only up to the 256 levels of an expression. A text has fewer tokens than the loop has
+/// turns.
 pub fn check_text(alloc: Global, text: &[u8]) -> Result<(), SyntaxRefused>
     ensures fine { IfOk result (λ u. IsText text.now) }
     ensures refused { IfErr result (λ r. IsRefused text.now r) }

@@ -3,6 +3,7 @@
 #![tactic(auto)]
 
 mod after;
+mod arithmetic;
 mod check;
 mod opening;
 mod refusal;

@@ -1,10 +1,10 @@
 //! What is open in a text.
 ghost use Rattle.std.specs.Prelude.{◌≡◌, OnOk};
-ghost use Rattle.ksh_scan.specs.Openings.{in_backquotes, innermost, opened_by, told_all, without_last};
+ghost use Rattle.ksh_scan.specs.Openings.{in_backquotes, innermost, is_separator, later_part, opened_by, parted_by, told_all, without_last};
 
 use ksh_base::{Items, Memory};
 use ksh_lexer::TokenKind;
-use ksh_syntax::Mark;
+use ksh_syntax::{Kind, Mark};
 
 /// The operator of a here-document: the place of its `<<`, and whether tabs are removed.
 #[derive(Clone, Copy, Debug, PartialEq, Eq)]
@@ -34,6 +34,10 @@ pub enum Opened {
 pub struct Opening {
     pub opened: Opened,
     pub byte: u32,
+    /// The byte at which its part begins that is being read.
+    pub part: u32,
+    /// Whether that is behind a separator.
+    pub is_later: bool,
 }
 
 /// What a token opens. A word that begins behind the operator of a here-document is its word.
@@ -94,4 +98,34 @@ fn close(openings: &mut Items<Opening>)
     ensures { openings.new ≡ without_last openings.old }
 {
     let _ = openings.pop();
+}
+
+pub(crate) fn is_separator(kind: Kind) -> bool
+    ensures { result ≡ is_separator kind }
+{
+    matches!(kind, Kind::Separator)
+}
+
+/// Begins another part of what was opened last, where a separator ends one.
+pub(crate) fn part(openings: &mut Items<Opening>, kind: Kind, at: u32) -> Result<(), Memory>
+    ensures { OnOk result (openings.new ≡ parted_by kind at openings.old) }
+{
+    if is_separator(kind) {
+        begin_part(openings, at)?;
+    }
+    Ok(())
+}
+
+fn begin_part(openings: &mut Items<Opening>, at: u32) -> Result<(), Memory>
+    ensures { OnOk result (openings.new ≡ later_part at (innermost openings.old) openings.old) }
+{
+    if let Some(last) = openings.pop() {
+        openings.push(Opening {
+            opened: last.opened,
+            byte: last.byte,
+            part: at,
+            is_later: true,
+        })?;
+    }
+    Ok(())
 }

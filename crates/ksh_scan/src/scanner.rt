@@ -96,6 +96,10 @@ impl<'a> Scanner<'a> {
         self.marks.clear();
         match self.reading.take(mode, seen.kind, &mut self.marks)? {
             Next::Taken => {
+                let bad = self.state.bad_arithmetic(alloc, mode, seen)?;
+                if let Some((kind, byte)) = bad {
+                    return Err(self.fault(kind, byte));
+                }
                 self.state.read(alloc, seen, self.marks.as_slice())?;
                 Ok(seen)
             }

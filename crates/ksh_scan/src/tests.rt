@@ -162,6 +162,106 @@ fn other_faults(rt: HostRuntime) -> Result<(), Fail> {
     Ok(())
 }
 
+#[test]
+fn arithmetic_texts_are_expressions(rt: HostRuntime) -> Result<(), Fail> {
+    let texts: [&[u8]; 12] = [
+        b"(( (1) + (2) ))",
+        b"((1\\\n+2))",
+        b"$((a[1+]))",
+        b"for ((;;)) do a; done",
+        b"for (( ; \t;\n)) do a; done",
+        b"for ((\\\n;;)) do a; done",
+        b"((1+$x+))",
+        b"$((1 `a`))",
+        b"((\"1+\"))",
+        b"for (('+';;)) do a; done",
+        b"((\\$ +))",
+        b"print ${x:1+:2} ${x[1+]}; x[1+]=2",
+    ];
+    for text in texts {
+        assert!(rt; is_fine(rt.alloc(), text));
+    }
+    Ok(())
+}
+
+#[test]
+fn arithmetic_texts_that_are_no_expressions(rt: HostRuntime) -> Result<(), Fail> {
+    let alloc = rt.alloc();
+    let rows: [(&[u8], u32, u32); 11] = [
+        (b"((1+))", 1, 4),
+        (b"(())", 1, 2),
+        (b"(( ))", 1, 3),
+        (b"print $(( ))", 1, 10),
+        (b"a=$((1 2))", 1, 7),
+        (b"for ((1+;;)) do a; done", 1, 8),
+        (b"for ((;;1 2)) do a; done", 1, 10),
+        (b"for ((1;2;3;4)) do a; done", 1, 11),
+        (b"((9223372036854775809))", 1, 20),
+        (b"((1 \\\\ 2))", 1, 4),
+        (b"$((a[1))", 1, 6),
+    ];
+    for (text, line, byte) in rows {
+        assert!(rt; has_fault(alloc, text, SyntaxKind::BadArithmetic, line, byte));
+    }
+    Ok(())
+}
+
+#[test]
+fn arithmetic_faults_stand_in_the_text(rt: HostRuntime) -> Result<(), Fail> {
+    let alloc = rt.alloc();
+    let rows: [(&[u8], u32, u32); 8] = [
+        (b"a\n((1+\\\n))", 3, 8),
+        (b"((1\\\n+))", 2, 6),
+        (b"((1\\\n+*2))", 2, 6),
+        (b"((1+)) \"a", 1, 4),
+        (b"`((1+))`", 1, 5),
+        (b"cat <<E\n$((1+))\nE\n", 2, 13),
+        (b"(($((1+))))", 1, 7),
+        (b"\"$((1+))\"", 1, 6),
+    ];
+    for (text, line, byte) in rows {
+        assert!(rt; has_fault(alloc, text, SyntaxKind::BadArithmetic, line, byte));
+    }
+    Ok(())
+}
+
+#[test]
+fn other_faults_come_before_an_arithmetic_text_ends(rt: HostRuntime) -> Result<(), Fail> {
+    let alloc = rt.alloc();
+    let rows: [(&[u8], SyntaxKind, u32); 6] = [
+        (b"((1+ \"a", SyntaxKind::UnclosedQuote, 5),
+        (b"((1+ \0))", SyntaxKind::NotInProfile, 5),
+        (b"((1+", SyntaxKind::UnexpectedEnd, 4),
+        (b"((1+)", SyntaxKind::UnexpectedEnd, 5),
+        (b"for ((1;2+)) do a; done", SyntaxKind::UnexpectedToken, 10),
+        (b"$((1+", SyntaxKind::UnclosedSubstitution, 0),
+    ];
+    for (text, kind, byte) in rows {
+        assert!(rt; has_fault(alloc, text, kind, 1, byte));
+    }
+    Ok(())
+}
+
+// So many signs in an arithmetic text.
+fn signs(alloc: Global, count: usize) -> Result<Text, Memory> {
+    let mut text = Text::of(alloc, b"((")?;
+    for _ in 0..count {
+        text.append(b"- ")?;
+    }
+    text.append(b"x))")?;
+    Ok(text)
+}
+
+#[test]
+fn expressions_of_256_levels_stand(rt: HostRuntime) -> Result<(), Fail> {
+    let alloc = rt.alloc();
+    let deep = signs(alloc, 255)?;
+    assert!(rt; is_fine(alloc, deep.bytes()));
+    let deeper = signs(alloc, 256)?;
+    assert!(rt; has_fault(alloc, deeper.bytes(), SyntaxKind::TooDeep, 1, 512));
+    Ok(())
+}
+
 // So many braces inside one another.
 fn nested(alloc: Global, count: usize) -> Result<Text, Memory> {
     let mut text = Text::empty(alloc);
