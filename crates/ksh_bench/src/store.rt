@@ -56,7 +56,7 @@ fn path(alloc: Global, number: u32) -> Result<Path> {
 }
 
 /// So many rows, made in their order.
-fn rows<L: Ledger>(alloc: Global, blank: Blank, many: u32) -> Result<Rows<L>>
+fn made<L: Ledger>(alloc: Global, blank: Blank, many: u32) -> Result<Rows<L>>
     requires name { blank.name ≡ L.name }
     requires parts { blank.parts ≡ L.parts }
     requires some { 0 < L.parts }
@@ -172,7 +172,7 @@ fn report<L: Ledger>(rt: &(impl Print + AllocGlobal + Clock), blank: Blank, many
     requires some { 0 < L.parts }
 {
     let alloc = rt.alloc();
-    let mut rows = rows::<L>(alloc, blank, many)?;
+    let mut rows = made::<L>(alloc, blank, many)?;
     for call in [Call::Get, Call::Put, Call::Append, Call::Unset] {
         let name = call.name();
         let start = Instant::now(rt)?;

@@ -23,6 +23,5 @@ pub fn plain_matches(pattern: &Pattern, text: &[u8]) -> Option<bool>
     }
 }
 
-
 #[cfg(test)]
 mod tests;

@@ -7,6 +7,7 @@ use std::test::Fail;
 /// Patterns, and the texts on each of which both ways agree: 30 times 15 pairs.
 const PATTERNS: &[u8] =
     b"a b ? * a* *a a*b [ab] [!a]* ?(a) *(a) +(a) @(a|b) !(a) !(a)b a!(b) *(ab|a) +(a|b)b !(*(a)) +(!(a)) !(!(a|b)) ?(a)?(b) *(a)*(b) @(|a)b !(a*)!(b) +(+(a)b) *(?)a @(a*|*b) *(!(b)a) !(?(a)b)";
+
 const TEXTS: &[u8] = b",a,b,aa,ab,ba,bb,aaa,aab,aba,abb,baa,bab,bba,bbb";
 
 /// Whether both ways say the same of each text.

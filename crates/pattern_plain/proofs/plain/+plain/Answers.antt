@@ -20,13 +20,13 @@ pub all-returns-then-all_at : goal.all-returns-then-all_at
 all-returns-then-all_at t c =
     let e : c.args.parts.now ≡ c.in-Some.first.now ∷ c.in-Some.rest.now = search rules in
     sym (ap (λ ps. matches ps c.args.text.now) e
-        ∙ cut_found (part_matches c.in-Some.first.now) (matches c.in-Some.rest.now) c.args.text.now c.loop-cut.cut c.loop-cut-test.true (sym c.all_at.ensures ∙ c.if-all_at.true))
+    ∙ cut_found (part_matches c.in-Some.first.now) (matches c.in-Some.rest.now) c.args.text.now c.loop-cut.cut c.loop-cut-test.true (sym c.all_at.ensures ∙ c.if-all_at.true))
 
 pub all-returns : goal.all-returns
 all-returns t c =
     let e : c.args.parts.now ≡ c.in-Some.first.now ∷ c.in-Some.rest.now = search rules in
     sym (ap (λ ps. matches ps c.args.text.now) e
-        ∙ cut_missing (part_matches c.in-Some.first.now) (matches c.in-Some.rest.now) c.args.text.now (λ i l. c.loop-cut.invariant i (omega (arith, l, c.loop-cut-test.false))))
+    ∙ cut_missing (part_matches c.in-Some.first.now) (matches c.in-Some.rest.now) c.args.text.now (λ i l. c.loop-cut.invariant i (omega (arith, l, c.loop-cut-test.false))))
 
 pub any_number-returns-then-either_at : goal.any_number-returns-then-either_at
 any_number-returns-then-either_at t c =
