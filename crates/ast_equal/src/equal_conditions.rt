@@ -1,0 +1,109 @@
+//! Whether two conditions are equal, one level at a time.
+ghost use Rattle.std.specs.Prelude.{◌≡◌, IfOk};
+ghost use Rattle.ast_equal.specs.Equal.{ComesTo};
+
+use crate::unsettled::{Sides, Unsettled};
+use ksh_ast::{Term, Test};
+use ksh_base::{Items, Memory};
+
+pub fn compare_tests<'a>(
+    left: &'a [Items<Term>],
+    right: &'a [Items<Term>],
+    unsettled: &mut Unsettled<'a>,
+) -> Result<bool, Memory>
+    ensures { IfOk result (λ same. ComesTo (left.now ≡ right.now) unsettled.old same unsettled.new) }
+{
+    let Some((left_first, left_rest)) = left.split_first() else {
+        return Ok(right.is_empty());
+    };
+    let Some((right_first, right_rest)) = right.split_first() else {
+        return Ok(false);
+    };
+    unsettled.push(Sides::Tests(left_rest, right_rest))?;
+    unsettled.push(Sides::Terms(left_first.as_slice(), right_first.as_slice()))?;
+    Ok(true)
+}
+
+pub fn compare_terms<'a>(
+    left: &'a [Term],
+    right: &'a [Term],
+    unsettled: &mut Unsettled<'a>,
+) -> Result<bool, Memory>
+    ensures { IfOk result (λ same. ComesTo (left.now ≡ right.now) unsettled.old same unsettled.new) }
+{
+    let Some((left_first, left_rest)) = left.split_first() else {
+        return Ok(right.is_empty());
+    };
+    let Some((right_first, right_rest)) = right.split_first() else {
+        return Ok(false);
+    };
+    unsettled.push(Sides::Terms(left_rest, right_rest))?;
+    compare_term(left_first, right_first, unsettled)
+}
+
+fn compare_term<'a>(
+    left: &'a Term,
+    right: &'a Term,
+    unsettled: &mut Unsettled<'a>,
+) -> Result<bool, Memory>
+    ensures { IfOk result (λ same. ComesTo (left.now ≡ right.now) unsettled.old same unsettled.new) }
+{
+    if left.negated != right.negated {
+        return Ok(false);
+    }
+    compare_test(&left.test, &right.test, unsettled)
+}
+
+fn compare_test<'a>(
+    left: &'a Test,
+    right: &'a Test,
+    unsettled: &mut Unsettled<'a>,
+) -> Result<bool, Memory>
+    ensures { IfOk result (λ same. ComesTo (left.now ≡ right.now) unsettled.old same unsettled.new) }
+{
+    match left {
+        Test::Nested(left) => match right {
+            Test::Nested(right) => {
+                unsettled.push(Sides::Tests(left.as_slice(), right.as_slice()))?;
+                Ok(true)
+            },
+            _ => Ok(false),
+        },
+        Test::Unary {
+            op: left_op,
+            word: left,
+        } => match right {
+            Test::Unary {
+                op: right_op,
+                word: right,
+            } => {
+                unsettled.push(Sides::Pieces(left.as_slice(), right.as_slice()))?;
+                Ok(*left_op == *right_op)
+            },
+            _ => Ok(false),
+        },
+        Test::Binary {
+            left: left_first,
+            op: left_op,
+            right: left_second,
+        } => match right {
+            Test::Binary {
+                left: right_first,
+                op: right_op,
+                right: right_second,
+            } => {
+                unsettled.push(Sides::Pieces(left_first.as_slice(), right_first.as_slice()))?;
+                unsettled.push(Sides::Pieces(left_second.as_slice(), right_second.as_slice()))?;
+                Ok(*left_op == *right_op)
+            },
+            _ => Ok(false),
+        },
+        Test::Word(left) => match right {
+            Test::Word(right) => {
+                unsettled.push(Sides::Pieces(left.as_slice(), right.as_slice()))?;
+                Ok(true)
+            },
+            _ => Ok(false),
+        },
+    }
+}
