@@ -85,7 +85,10 @@ impl<L: Ledger> Session<L> {
         let mut out = Text::empty(alloc);
         match verb {
             "scope" => add_number(alloc, &mut out, i64::from(self.store.scope()))?,
-            "count" => add_number(alloc, &mut out, self.store.count() as i64)?,
+            "count" => {
+                let count = i64::try_from(self.store.count()).unwrap_or(i64::MAX);
+                add_number(alloc, &mut out, count)?;
+            }
             "names" => {
                 let scope = rest.parse::<u32>().unwrap_or(0);
                 return names(alloc, self.store.names(scope)?.as_slice());
