@@ -129,7 +129,7 @@ pub all_modes : HasAll modes
 all_modes m = (mode_number m, mode_at m)
 
 abbrev pub parts : List declared.Part
-parts = (part.Text mode.Command) ∷ (part.Text mode.Pattern) ∷ (part.Text mode.Condition) ∷ (part.Text mode.Value) ∷ (part.Text mode.Word) ∷ (part.Text mode.Quoted) ∷ (part.Text mode.Group) ∷ (part.Text mode.Brace) ∷ (part.Text mode.Colon) ∷ (part.Text mode.Slash) ∷ (part.Text mode.Subscript) ∷ (part.Text mode.Arithmetic) ∷ (part.Text mode.LoopArithmetic) ∷ (part.Text mode.Parentheses) ∷ (part.Text mode.Body) ∷ (part.Text mode.Parameter) ∷ (part.Text mode.Form) ∷ (part.Text mode.Target) ∷ (part.Lines ending.Operator) ∷ (part.Body ending.Operator) ∷ (part.Commands ending.Operator) ∷ (part.Piped ending.Operator) ∷ (part.AfterName ending.Operator) ∷ (part.AfterSimple ending.Operator) ∷ (part.AfterCompound ending.Operator) ∷ (part.Lines ending.Word) ∷ (part.Body ending.Word) ∷ (part.Commands ending.Word) ∷ (part.Piped ending.Word) ∷ (part.AfterName ending.Word) ∷ (part.AfterSimple ending.Word) ∷ (part.AfterCompound ending.Word) ∷ (part.Lines ending.Case) ∷ (part.Body ending.Case) ∷ (part.Commands ending.Case) ∷ (part.Piped ending.Case) ∷ (part.AfterName ending.Case) ∷ (part.AfterSimple ending.Case) ∷ (part.AfterCompound ending.Case) ∷ part.Parameter ∷ part.LengthOf ∷ part.LengthPath ∷ part.TargetPath ∷ part.PathForm ∷ part.SpecialForm ∷ part.SliceEnd ∷ part.ReplaceEnd ∷ part.Script ∷ part.Line ∷ part.BodyTexts ∷ part.BodyEnd ∷ part.Newlines ∷ part.Simple ∷ part.Compounded ∷ part.Arguments ∷ part.Redirections ∷ part.Redirection ∷ part.RedirectWord ∷ part.ElementValue ∷ part.Compound ∷ part.IfBody ∷ part.IfRest ∷ part.LoopBody ∷ part.ForBody ∷ part.ForSeparator ∷ part.SelectBody ∷ part.ForWords ∷ part.ForLines ∷ part.WordList ∷ part.CaseBody ∷ part.AnyWord ∷ part.CaseItems ∷ part.PatternLine ∷ part.PatternRest ∷ part.PatternWord ∷ part.Condition ∷ part.ConditionLines ∷ part.ConditionLine ∷ part.Alternatives ∷ part.Conjunction ∷ part.Conjuncts ∷ part.Negation ∷ part.Term ∷ part.AfterOperand ∷ part.Operand ∷ part.AfterUnary ∷ part.AfterBinary ∷ part.Value ∷ part.ValueLine ∷ part.ItemElement ∷ part.MemberElement ∷ part.Items ∷ part.KeyValue ∷ part.ItemsMixed ∷ part.ItemsMembers ∷ part.ValueLines ∷ part.MemberFunction ∷ part.TypesetMember ∷ part.ItemsTypeset ∷ part.ItemsFunction ∷ part.ItemsBrace ∷ part.AfterItemName ∷ part.ItemsWords ∷ part.ItemsPairs ∷ part.MemberRedirections ∷ []
+parts = (part.Text mode.Command) ∷ (part.Text mode.Pattern) ∷ (part.Text mode.Condition) ∷ (part.Text mode.Value) ∷ (part.Text mode.Word) ∷ (part.Text mode.Quoted) ∷ (part.Text mode.Group) ∷ (part.Text mode.Brace) ∷ (part.Text mode.Colon) ∷ (part.Text mode.Slash) ∷ (part.Text mode.Subscript) ∷ (part.Text mode.Arithmetic) ∷ (part.Text mode.LoopArithmetic) ∷ (part.Text mode.Parentheses) ∷ (part.Text mode.Body) ∷ (part.Text mode.Parameter) ∷ (part.Text mode.Form) ∷ (part.Text mode.Target) ∷ (part.Lines ending.Operator) ∷ (part.Body ending.Operator) ∷ (part.Commands ending.Operator) ∷ (part.Piped ending.Operator) ∷ (part.AfterName ending.Operator) ∷ (part.AfterSimple ending.Operator) ∷ (part.AfterCompound ending.Operator) ∷ (part.Lines ending.Word) ∷ (part.Body ending.Word) ∷ (part.Commands ending.Word) ∷ (part.Piped ending.Word) ∷ (part.AfterName ending.Word) ∷ (part.AfterSimple ending.Word) ∷ (part.AfterCompound ending.Word) ∷ (part.Lines ending.Case) ∷ (part.Body ending.Case) ∷ (part.Commands ending.Case) ∷ (part.Piped ending.Case) ∷ (part.AfterName ending.Case) ∷ (part.AfterSimple ending.Case) ∷ (part.AfterCompound ending.Case) ∷ part.Parameter ∷ part.LengthOf ∷ part.LengthPath ∷ part.TargetPath ∷ part.PathForm ∷ part.SpecialForm ∷ part.SliceEnd ∷ part.ReplaceEnd ∷ part.Script ∷ part.Line ∷ part.BodyTexts ∷ part.BodyEnd ∷ part.Newlines ∷ part.Simple ∷ part.Compounded ∷ part.Arguments ∷ part.Redirections ∷ part.Redirection ∷ part.RedirectWord ∷ part.ElementValue ∷ part.Compound ∷ part.IfBody ∷ part.IfRest ∷ part.LoopBody ∷ part.ForBody ∷ part.ForSeparator ∷ part.SelectBody ∷ part.ForWords ∷ part.ForLines ∷ part.WordList ∷ part.CaseBody ∷ part.AnyWord ∷ part.CaseItems ∷ part.PatternLine ∷ part.PatternRest ∷ part.PatternWord ∷ part.Condition ∷ part.ConditionLines ∷ part.ConditionLine ∷ part.Alternatives ∷ part.Conjunction ∷ part.Conjuncts ∷ part.Negation ∷ part.Term ∷ part.AfterOperand ∷ part.Operand ∷ part.AfterUnary ∷ part.AfterBinary ∷ part.Value ∷ part.ValueLine ∷ part.ItemElement ∷ part.MemberElement ∷ part.Items ∷ part.KeyValue ∷ part.ItemsMixed ∷ part.ItemsMembers ∷ part.ValueLines ∷ part.MemberFunction ∷ part.TypesetMember ∷ part.ItemsTypeset ∷ part.ItemsFunction ∷ part.ItemsBrace ∷ part.AfterItemName ∷ part.ItemsWords ∷ part.ItemsPairs ∷ part.MemberRedirections ∷ part.FirstArguments ∷ part.FirstElement ∷ []
 
 pub all_parts : HasAll parts
 all_parts (part.Text mode.Command) = (0, refl)
@@ -237,3 +237,5 @@ all_parts part.AfterItemName = (101, refl)
 all_parts part.ItemsWords = (102, refl)
 all_parts part.ItemsPairs = (103, refl)
 all_parts part.MemberRedirections = (104, refl)
+all_parts part.FirstArguments = (105, refl)
+all_parts part.FirstElement = (106, refl)

@@ -33,6 +33,7 @@ weight part.Newlines = 6
 weight part.Simple = 6
 weight part.Compounded = 6
 weight part.Arguments = 6
+weight part.FirstArguments = 6
 weight part.Redirections = 6
 weight part.IfBody = 18
 weight part.LoopBody = 18

@@ -93,16 +93,16 @@ simple_ends ending.Word = []
 simple_ends ending.Case = item_ends
 
 abbrev pub list_rules : Ending → List Rule
-list_rules e = (Part part.Line ∷ Part (part.Lines e) ∷ []) ∷ (Part (part.Commands e) ∷ []) ∷ list_ends e
+list_rules e = (Part part.Line ∷ Part (part.Lines e) ∷ []) ∷ (Make mark.AndOrBegins ∷ Part (part.Commands e) ∷ []) ∷ list_ends e
 
 abbrev pub rules : declared.Part → List Rule
 rules (part.Text m) = text_rules m
 rules (part.Lines e) = list_rules e
-rules (part.Body e) = (Part part.Line ∷ Part (part.Body e) ∷ []) ∷ (Part (part.Commands e) ∷ []) ∷ []
-rules (part.Commands e) = (one mode.Command kind.Bang ∷ Part (part.Piped e) ∷ []) ∷ (Part (part.Piped e) ∷ []) ∷ []
+rules (part.Body e) = (Part part.Line ∷ Part (part.Body e) ∷ []) ∷ (Make mark.AndOrBegins ∷ Part (part.Commands e) ∷ []) ∷ []
+rules (part.Commands e) = (Make mark.PipelineBegins ∷ one mode.Command kind.Bang ∷ Part (part.Piped e) ∷ []) ∷ (Make mark.PipelineBegins ∷ Part (part.Piped e) ∷ []) ∷ []
 rules (part.Piped e) =
-    (Token (Any mode.Command words.FunctionName) ∷ Part (part.AfterName e) ∷ [])
-    ∷ (Part part.Simple ∷ Part (part.AfterSimple e) ∷ [])
+    (Make mark.SimpleBegins ∷ Make mark.CommandName ∷ Token (Any mode.Command words.FunctionName) ∷ Part (part.AfterName e) ∷ [])
+    ∷ (Make mark.SimpleBegins ∷ Part part.Simple ∷ Part (part.AfterSimple e) ∷ [])
     ∷ (Part part.Compounded ∷ Part (part.AfterCompound e) ∷ [])
     ∷ []
 rules (part.AfterName e) =
@@ -124,20 +124,20 @@ rules part.LengthOf =
     ∷ (one mode.Parameter kind.Special ∷ Make mark.Closes ∷ one mode.Form kind.Close ∷ [])
     ∷ []
 rules part.LengthPath =
-    (one mode.Form kind.Open ∷ Part (part.Text mode.Subscript) ∷ one mode.Subscript kind.Close ∷ Part part.LengthPath ∷ [])
+    (one mode.Form kind.Open ∷ Part (part.Text mode.Subscript) ∷ Make mark.SubscriptEnds ∷ one mode.Subscript kind.Close ∷ Part part.LengthPath ∷ [])
     ∷ (one mode.Form kind.Member ∷ Part part.LengthPath ∷ [])
     ∷ (one mode.Form kind.Items ∷ Make mark.Closes ∷ one mode.Form kind.Close ∷ [])
     ∷ (Make mark.Closes ∷ one mode.Form kind.Close ∷ [])
     ∷ []
 rules part.TargetPath =
-    (one mode.Form kind.Open ∷ Part (part.Text mode.Subscript) ∷ one mode.Subscript kind.Close ∷ Part part.TargetPath ∷ [])
+    (one mode.Form kind.Open ∷ Part (part.Text mode.Subscript) ∷ Make mark.SubscriptEnds ∷ one mode.Subscript kind.Close ∷ Part part.TargetPath ∷ [])
     ∷ (one mode.Form kind.Member ∷ Part part.TargetPath ∷ [])
     ∷ (one mode.Form kind.Items ∷ Make mark.Closes ∷ one mode.Form kind.Close ∷ [])
     ∷ (one mode.Form kind.Prefix ∷ Make mark.Closes ∷ one mode.Form kind.Close ∷ [])
     ∷ (Make mark.Closes ∷ one mode.Form kind.Close ∷ [])
     ∷ []
 rules part.PathForm =
-    (one mode.Form kind.Open ∷ Part (part.Text mode.Subscript) ∷ one mode.Subscript kind.Close ∷ Part part.PathForm ∷ [])
+    (one mode.Form kind.Open ∷ Part (part.Text mode.Subscript) ∷ Make mark.SubscriptEnds ∷ one mode.Subscript kind.Close ∷ Part part.PathForm ∷ [])
     ∷ (one mode.Form kind.Member ∷ Part part.PathForm ∷ [])
     ∷ (one mode.Form kind.Items ∷ Part part.SpecialForm ∷ [])
     ∷ (Make mark.Closes ∷ one mode.Form kind.Close ∷ [])
@@ -161,11 +161,31 @@ rules part.BodyTexts = (Part (part.Text mode.Body) ∷ Part part.BodyEnd ∷ [])
 rules part.BodyEnd = (one mode.Body kind.BodyNext ∷ Part part.BodyTexts ∷ []) ∷ (one mode.Body kind.BodyLast ∷ []) ∷ []
 rules part.Newlines = [] ∷ (Part part.Line ∷ Part part.Newlines ∷ []) ∷ []
 rules part.Simple =
-    (Make mark.CommandWord ∷ Token (Any mode.Command words.CommandWord) ∷ Part part.Arguments ∷ [])
-    ∷ (Token (Any mode.Command words.AnyStart) ∷ Part (part.Text mode.Word) ∷ one mode.Word kind.WordEnd ∷ Part part.Arguments ∷ [])
-    ∷ (one mode.Command kind.Element ∷ Part part.ElementValue ∷ Part part.Arguments ∷ [])
-    ∷ (one mode.Command kind.ValueOpen ∷ Part part.Value ∷ Part part.Arguments ∷ [])
-    ∷ (Part part.Redirection ∷ Part part.Arguments ∷ [])
+    (Make mark.CommandWord ∷ Make mark.CommandName ∷ Token (Any mode.Command words.CommandWord) ∷ Part part.Arguments ∷ [])
+    ∷ (one mode.Command kind.Start ∷ Part (part.Text mode.Word) ∷ one mode.Word kind.WordEnd ∷ Part part.Arguments ∷ [])
+    ∷ (one mode.Command kind.StartAssignment ∷ Part (part.Text mode.Word) ∷ one mode.Word kind.WordEnd ∷ Part part.FirstArguments ∷ [])
+    ∷ (one mode.Command kind.Element ∷ Part part.FirstElement ∷ [])
+    ∷ (one mode.Command kind.ValueOpen ∷ Part part.Value ∷ Part part.FirstArguments ∷ [])
+    ∷ (one mode.Command kind.Assignment ∷ Part part.FirstArguments ∷ [])
+    ∷ (Part part.Redirection ∷ Part part.FirstArguments ∷ [])
+    ∷ []
+rules part.FirstArguments =
+    (Make mark.SimpleEnds ∷ [])
+    ∷ (Make mark.CommandName ∷ Token (Any mode.Command words.NotAssignment) ∷ Part part.Arguments ∷ [])
+    ∷ (one mode.Command kind.Start ∷ Part (part.Text mode.Word) ∷ one mode.Word kind.WordEnd ∷ Part part.Arguments ∷ [])
+    ∷ (one mode.Command kind.StartAssignment ∷ Part (part.Text mode.Word) ∷ one mode.Word kind.WordEnd ∷ Part part.FirstArguments ∷ [])
+    ∷ (one mode.Command kind.Element ∷ Part part.FirstElement ∷ [])
+    ∷ (one mode.Command kind.ValueOpen ∷ Part part.Value ∷ Part part.FirstArguments ∷ [])
+    ∷ (one mode.Command kind.Assignment ∷ Part part.FirstArguments ∷ [])
+    ∷ (Part part.Redirection ∷ Part part.FirstArguments ∷ [])
+    ∷ []
+rules part.FirstElement =
+    (one mode.Target kind.Open ∷ Part (part.Text mode.Subscript) ∷ Make mark.SubscriptEnds ∷ one mode.Subscript kind.Close ∷ Part part.FirstElement ∷ [])
+    ∷ (one mode.Target kind.Member ∷ Part part.FirstElement ∷ [])
+    ∷ (one mode.Target kind.Assign ∷ Part (part.Text mode.Word) ∷ one mode.Word kind.WordEnd ∷ Part part.FirstArguments ∷ [])
+    ∷ (one mode.Target kind.AddAssign ∷ Part (part.Text mode.Word) ∷ one mode.Word kind.WordEnd ∷ Part part.FirstArguments ∷ [])
+    ∷ (one mode.Target kind.ValueOpen ∷ Part part.Value ∷ Part part.FirstArguments ∷ [])
+    ∷ (one mode.Target kind.Otherwise ∷ Part (part.Text mode.Word) ∷ one mode.Word kind.WordEnd ∷ Part part.Arguments ∷ [])
     ∷ []
 rules part.Compounded =
     (Part part.Compound ∷ Part part.Redirections ∷ [])
@@ -186,7 +206,7 @@ rules part.RedirectWord =
     ∷ (Make mark.Opens ∷ Token (Any mode.Condition words.RedirectStart) ∷ Part (part.Text mode.Word) ∷ Make mark.Closes ∷ one mode.Word kind.WordEnd ∷ [])
     ∷ []
 rules part.ElementValue =
-    (one mode.Target kind.Open ∷ Part (part.Text mode.Subscript) ∷ one mode.Subscript kind.Close ∷ Part part.ElementValue ∷ [])
+    (one mode.Target kind.Open ∷ Part (part.Text mode.Subscript) ∷ Make mark.SubscriptEnds ∷ one mode.Subscript kind.Close ∷ Part part.ElementValue ∷ [])
     ∷ (one mode.Target kind.Member ∷ Part part.ElementValue ∷ [])
     ∷ (one mode.Target kind.Assign ∷ Part (part.Text mode.Word) ∷ one mode.Word kind.WordEnd ∷ [])
     ∷ (one mode.Target kind.AddAssign ∷ Part (part.Text mode.Word) ∷ one mode.Word kind.WordEnd ∷ [])
@@ -259,7 +279,7 @@ rules part.ConditionLine = (one mode.Condition kind.Newline ∷ []) ∷ (one mod
 rules part.Alternatives = [] ∷ (one mode.Condition kind.OrIf ∷ Part part.ConditionLines ∷ Part part.Conjunction ∷ Part part.Alternatives ∷ []) ∷ []
 rules part.Conjunction = (Part part.Negation ∷ Part part.Conjuncts ∷ []) ∷ []
 rules part.Conjuncts = [] ∷ (one mode.Condition kind.AndIf ∷ Part part.ConditionLines ∷ Part part.Negation ∷ Part part.Conjuncts ∷ []) ∷ []
-rules part.Negation = (one mode.Condition kind.Bang ∷ Part part.ConditionLines ∷ Part part.Negation ∷ []) ∷ (Part part.Term ∷ Part part.ConditionLines ∷ []) ∷ []
+rules part.Negation = (one mode.Condition kind.Bang ∷ Part part.ConditionLines ∷ Part part.Negation ∷ []) ∷ (Part part.Term ∷ Make mark.TermEnds ∷ Part part.ConditionLines ∷ []) ∷ []
 rules part.Term =
     (one mode.Condition kind.Open ∷ Inside part.Condition ∷ one mode.Condition kind.Close ∷ [])
     ∷ (one mode.Condition kind.Unary ∷ Part part.AfterUnary ∷ [])
@@ -286,7 +306,7 @@ rules part.AfterBinary =
 rules part.Value = (Make mark.Opens ∷ one mode.Value kind.Open ∷ Inside part.Items ∷ []) ∷ []
 rules part.ValueLine = (one mode.Value kind.Newline ∷ []) ∷ (one mode.Value kind.NewlineBodies ∷ Part part.BodyTexts ∷ []) ∷ []
 rules part.ItemElement =
-    (one mode.Target kind.Open ∷ Part (part.Text mode.Subscript) ∷ one mode.Subscript kind.Close ∷ Part part.ItemElement ∷ [])
+    (one mode.Target kind.Open ∷ Part (part.Text mode.Subscript) ∷ Make mark.SubscriptEnds ∷ one mode.Subscript kind.Close ∷ Part part.ItemElement ∷ [])
     ∷ (one mode.Target kind.Member ∷ Part part.ItemElement ∷ [])
     ∷ (one mode.Target kind.Assign ∷ Part (part.Text mode.Word) ∷ one mode.Word kind.WordEnd ∷ Part part.ItemsMixed ∷ [])
     ∷ (one mode.Target kind.AddAssign ∷ Part (part.Text mode.Word) ∷ one mode.Word kind.WordEnd ∷ Part part.ItemsMixed ∷ [])
@@ -294,7 +314,7 @@ rules part.ItemElement =
     ∷ (one mode.Target kind.Otherwise ∷ Part (part.Text mode.Word) ∷ one mode.Word kind.WordEnd ∷ Part part.ItemsWords ∷ [])
     ∷ []
 rules part.MemberElement =
-    (one mode.Target kind.Open ∷ Part (part.Text mode.Subscript) ∷ one mode.Subscript kind.Close ∷ Part part.MemberElement ∷ [])
+    (one mode.Target kind.Open ∷ Part (part.Text mode.Subscript) ∷ Make mark.SubscriptEnds ∷ one mode.Subscript kind.Close ∷ Part part.MemberElement ∷ [])
     ∷ (one mode.Target kind.Member ∷ Part part.MemberElement ∷ [])
     ∷ (one mode.Target kind.Assign ∷ Part (part.Text mode.Word) ∷ one mode.Word kind.WordEnd ∷ [])
     ∷ (one mode.Target kind.AddAssign ∷ Part (part.Text mode.Word) ∷ one mode.Word kind.WordEnd ∷ [])
@@ -308,7 +328,7 @@ rules part.Items =
     ∷ (one mode.Value kind.StartAssignment ∷ Part (part.Text mode.Word) ∷ one mode.Word kind.WordEnd ∷ Part part.ItemsMixed ∷ [])
     ∷ (one mode.Value kind.Element ∷ Part part.ItemElement ∷ [])
     ∷ (one mode.Value kind.ValueOpen ∷ Part part.Value ∷ Part part.ItemsMembers ∷ [])
-    ∷ (one mode.Value kind.Key ∷ Part (part.Text mode.Subscript) ∷ one mode.Subscript kind.Close ∷ Part part.KeyValue ∷ Part part.ItemsPairs ∷ [])
+    ∷ (one mode.Value kind.Key ∷ Part (part.Text mode.Subscript) ∷ Make mark.SubscriptEnds ∷ one mode.Subscript kind.Close ∷ Part part.KeyValue ∷ Part part.ItemsPairs ∷ [])
     ∷ (one mode.Value kind.Typeset ∷ Part part.ItemsTypeset ∷ [])
     ∷ (one mode.Value kind.Function ∷ Part part.ItemsFunction ∷ [])
     ∷ (Token (Any mode.Value words.MemberName) ∷ Part part.AfterItemName ∷ [])
@@ -324,7 +344,7 @@ rules part.ItemsMixed =
     ∷ (one mode.Value kind.StartAssignment ∷ Part (part.Text mode.Word) ∷ one mode.Word kind.WordEnd ∷ Part part.ItemsMixed ∷ [])
     ∷ (one mode.Value kind.Element ∷ Part part.ItemElement ∷ [])
     ∷ (one mode.Value kind.ValueOpen ∷ Part part.Value ∷ Part part.ItemsMembers ∷ [])
-    ∷ (one mode.Value kind.Key ∷ Part (part.Text mode.Subscript) ∷ one mode.Subscript kind.Close ∷ Part part.KeyValue ∷ Part part.ItemsWords ∷ [])
+    ∷ (one mode.Value kind.Key ∷ Part (part.Text mode.Subscript) ∷ Make mark.SubscriptEnds ∷ one mode.Subscript kind.Close ∷ Part part.KeyValue ∷ Part part.ItemsWords ∷ [])
     ∷ (one mode.Value kind.Typeset ∷ Part part.ItemsTypeset ∷ [])
     ∷ (one mode.Value kind.Function ∷ Part part.ItemsFunction ∷ [])
     ∷ (Token (Any mode.Value words.MemberName) ∷ Part part.AfterItemName ∷ [])
@@ -401,21 +421,21 @@ rules part.ItemsWords =
     ∷ (one mode.Value kind.StartAssignment ∷ Part (part.Text mode.Word) ∷ one mode.Word kind.WordEnd ∷ Part part.ItemsWords ∷ [])
     ∷ (Token (Any mode.Value words.NotAssignment) ∷ Part part.ItemsWords ∷ [])
     ∷ (one mode.Value kind.Start ∷ Part (part.Text mode.Word) ∷ one mode.Word kind.WordEnd ∷ Part part.ItemsWords ∷ [])
-    ∷ (one mode.Value kind.Key ∷ Part (part.Text mode.Subscript) ∷ one mode.Subscript kind.Close ∷ Part part.KeyValue ∷ Part part.ItemsWords ∷ [])
+    ∷ (one mode.Value kind.Key ∷ Part (part.Text mode.Subscript) ∷ Make mark.SubscriptEnds ∷ one mode.Subscript kind.Close ∷ Part part.KeyValue ∷ Part part.ItemsWords ∷ [])
     ∷ []
 rules part.ItemsPairs =
     (Make mark.Closes ∷ one mode.Value kind.Close ∷ [])
     ∷ (Part part.ValueLine ∷ Part part.ItemsPairs ∷ [])
-    ∷ (one mode.Value kind.Key ∷ Part (part.Text mode.Subscript) ∷ one mode.Subscript kind.Close ∷ Part part.KeyValue ∷ Part part.ItemsPairs ∷ [])
+    ∷ (one mode.Value kind.Key ∷ Part (part.Text mode.Subscript) ∷ Make mark.SubscriptEnds ∷ one mode.Subscript kind.Close ∷ Part part.KeyValue ∷ Part part.ItemsPairs ∷ [])
     ∷ (one mode.Value kind.Assignment ∷ Part part.ItemsWords ∷ [])
     ∷ (one mode.Value kind.StartAssignment ∷ Part (part.Text mode.Word) ∷ one mode.Word kind.WordEnd ∷ Part part.ItemsWords ∷ [])
     ∷ (Token (Any mode.Value words.NotAssignment) ∷ Part part.ItemsWords ∷ [])
     ∷ (one mode.Value kind.Start ∷ Part (part.Text mode.Word) ∷ one mode.Word kind.WordEnd ∷ Part part.ItemsWords ∷ [])
     ∷ []
 rules part.MemberRedirections =
-    (Make mark.Closes ∷ one mode.Command kind.Close ∷ [])
-    ∷ (Part part.Line ∷ Part part.ItemsMembers ∷ [])
-    ∷ (one mode.Command kind.Semicolon ∷ Part part.ItemsMembers ∷ [])
+    (Make mark.CompoundEnds ∷ Make mark.Closes ∷ one mode.Command kind.Close ∷ [])
+    ∷ (Make mark.CompoundEnds ∷ Part part.Line ∷ Part part.ItemsMembers ∷ [])
+    ∷ (Make mark.CompoundEnds ∷ one mode.Command kind.Semicolon ∷ Part part.ItemsMembers ∷ [])
     ∷ (Part part.Redirection ∷ Part part.MemberRedirections ∷ [])
     ∷ []
 
@@ -434,6 +454,7 @@ mode_of part.BodyTexts = mode.Body
 mode_of part.BodyEnd = mode.Body
 mode_of part.RedirectWord = mode.Condition
 mode_of part.ElementValue = mode.Target
+mode_of part.FirstElement = mode.Target
 mode_of part.CaseItems = mode.Pattern
 mode_of part.PatternLine = mode.Pattern
 mode_of part.PatternRest = mode.Pattern

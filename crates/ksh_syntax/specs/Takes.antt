@@ -194,7 +194,7 @@ names_function _ = false
 abbrev pub are_in : Words → Kind → Bool
 are_in words.AnyWord k = is_bare k
 are_in words.FunctionName k = names_function k
-are_in words.CommandWord k = is_bare k && not (is_reserved k || names_function k)
+are_in words.CommandWord k = is_bare k && not (is_reserved k || (names_function k || same_kind k kind.Assignment))
 are_in words.AnyStart k = same_kind k kind.Start || same_kind k kind.StartAssignment
 are_in words.DottedName k = names_function k || is_reserved_name k
 are_in words.RedirectStart k = same_kind k kind.Start || (same_kind k kind.StartAssignment || same_kind k kind.Element)

@@ -4,11 +4,11 @@ ghost use Rattle.ksh_syntax.specs.declared.part.Part.TheVariants as part;
 
 use crate::kind::{Kind, Mode};
 use crate::part::Terminal::{Any, One};
-use crate::part::{Part, Words};
+use crate::part::{Mark, Part, Words};
 use crate::reading::{Reading, Step};
 use crate::words::is_in;
 use ksh_base::Memory;
-use ksh_grammar::Place::{Inside, Part as P, Token};
+use ksh_grammar::Place::{Inside, Make, Part as P, Token};
 
 impl Reading {
     pub(crate) fn condition(&mut self, depth: u8, _kind: Kind) -> Result<Step, Memory>
@@ -111,7 +111,16 @@ impl Reading {
                     ],
                 )
             }
-            _ => { self.put(depth, &[P(Part::Term), P(Part::ConditionLines)]) }
+            _ => {
+                self.put(
+                    depth,
+                    &[
+                        P(Part::Term),
+                        Make(Mark::TermEnds),
+                        P(Part::ConditionLines),
+                    ],
+                )
+            }
         }
     }
 

@@ -61,7 +61,10 @@ impl Reading {
                 ),
                 _ => Ok(Step::Refused)
             },
-            _ => self.put(depth, &[P(Part::Commands(ending))]),
+            _ => self.put(
+                depth,
+                &[Make(Mark::AndOrBegins), P(Part::Commands(ending))],
+            ),
         }
     }
 
@@ -73,7 +76,10 @@ impl Reading {
                 depth,
                 &[P(Part::Line), P(Part::Body(ending))],
             ),
-            _ => self.put(depth, &[P(Part::Commands(ending))]),
+            _ => self.put(
+                depth,
+                &[Make(Mark::AndOrBegins), P(Part::Commands(ending))],
+            ),
         }
     }
 
@@ -84,11 +90,15 @@ impl Reading {
             Kind::Bang => self.put(
                 depth,
                 &[
+                    Make(Mark::PipelineBegins),
                     Token(One(Mode::Command, Kind::Bang)),
                     P(Part::Piped(ending)),
                 ],
             ),
-            _ => self.put(depth, &[P(Part::Piped(ending))]),
+            _ => self.put(
+                depth,
+                &[Make(Mark::PipelineBegins), P(Part::Piped(ending))],
+            ),
         }
     }
 
@@ -99,6 +109,8 @@ impl Reading {
             Kind::Name | Kind::Dotted | Kind::Typeset | Kind::In => self.put(
                 depth,
                 &[
+                    Make(Mark::SimpleBegins),
+                    Make(Mark::CommandName),
                     Token(Any(Mode::Command, Words::FunctionName)),
                     P(Part::AfterName(ending)),
                 ],
@@ -117,7 +129,14 @@ impl Reading {
                 depth,
                 &[P(Part::Compounded), P(Part::AfterCompound(ending))],
             ),
-            _ => self.put(depth, &[P(Part::Simple), P(Part::AfterSimple(ending))]),
+            _ => self.put(
+                depth,
+                &[
+                    Make(Mark::SimpleBegins),
+                    P(Part::Simple),
+                    P(Part::AfterSimple(ending)),
+                ],
+            ),
         }
     }
 

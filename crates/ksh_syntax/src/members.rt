@@ -21,6 +21,7 @@ impl Reading {
                     &[
                         Token(One(Mode::Target, Kind::Open)),
                         P(Part::Text(Mode::Subscript)),
+                        Make(Mark::SubscriptEnds),
                         Token(One(Mode::Subscript, Kind::Close)),
                         P(Part::MemberElement),
                     ],
@@ -275,13 +276,18 @@ impl Reading {
             Kind::Close => {
                 self.put(
                     depth,
-                    &[Make(Mark::Closes), Token(One(Mode::Command, Kind::Close))],
+                    &[
+                        Make(Mark::CompoundEnds),
+                        Make(Mark::Closes),
+                        Token(One(Mode::Command, Kind::Close)),
+                    ],
                 )
             }
             Kind::Semicolon => {
                 self.put(
                     depth,
                     &[
+                        Make(Mark::CompoundEnds),
                         Token(One(Mode::Command, Kind::Semicolon)),
                         P(Part::ItemsMembers),
                     ],
@@ -290,7 +296,16 @@ impl Reading {
             Kind::Redirect | Kind::HereRedirect => {
                 self.put(depth, &[P(Part::Redirection), P(Part::MemberRedirections)])
             }
-            _ => { self.put(depth, &[P(Part::Line), P(Part::ItemsMembers)]) }
+            _ => {
+                self.put(
+                    depth,
+                    &[
+                        Make(Mark::CompoundEnds),
+                        P(Part::Line),
+                        P(Part::ItemsMembers),
+                    ],
+                )
+            }
         }
     }
 }

@@ -102,6 +102,7 @@ impl Reading {
                     &[
                         Token(One(Mode::Form, Kind::Open)),
                         P(Part::Text(Mode::Subscript)),
+                        Make(Mark::SubscriptEnds),
                         Token(One(Mode::Subscript, Kind::Close)),
                         P(Part::LengthPath),
                     ],
@@ -143,6 +144,7 @@ impl Reading {
                     &[
                         Token(One(Mode::Form, Kind::Open)),
                         P(Part::Text(Mode::Subscript)),
+                        Make(Mark::SubscriptEnds),
                         Token(One(Mode::Subscript, Kind::Close)),
                         P(Part::TargetPath),
                     ],
@@ -194,6 +196,7 @@ impl Reading {
                     &[
                         Token(One(Mode::Form, Kind::Open)),
                         P(Part::Text(Mode::Subscript)),
+                        Make(Mark::SubscriptEnds),
                         Token(One(Mode::Subscript, Kind::Close)),
                         P(Part::PathForm),
                     ],

@@ -5,7 +5,7 @@ use crate::kind::{Kind, Mode};
 pub enum Words {
     /// One that may name a function at the front of a command.
     FunctionName,
-    /// One that begins a command otherwise.
+    /// One that names a command otherwise.
     CommandWord,
     /// A word with pieces.
     AnyStart,
@@ -109,6 +109,10 @@ pub enum Part {
     Compounded,
     /// The rest of a simple command.
     Arguments,
+    /// The rest of a simple command that has no name yet.
+    FirstArguments,
+    /// What comes behind an element's path there.
+    FirstElement,
     /// Redirections behind a compound command, perhaps none.
     Redirections,
     /// A redirection.
@@ -226,4 +230,16 @@ pub enum Mark {
     Closes,
     /// The next token is a whole word that begins a simple command and can't name a function.
     CommandWord,
+    /// The next token is a whole word that names a simple command, or a function that `()` defines.
+    CommandName,
+    /// The next token closes the subscript of a path, or of a pair's key.
+    SubscriptEnds,
+    /// The next token begins what stands between separators of a list: pipelines with `&&` and `||` between them.
+    AndOrBegins,
+    /// The next token begins a pipeline, also behind `&&` and `||`: a `!`, or its first command.
+    PipelineBegins,
+    /// The next token begins a simple command, or names a function that `()` defines.
+    SimpleBegins,
+    /// A term of a condition ends, and what the `!`s before it negate.
+    TermEnds,
 }

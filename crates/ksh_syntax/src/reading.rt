@@ -213,6 +213,8 @@ impl Reading {
             Part::Newlines => self.newlines(depth, kind),
             Part::Simple => self.simple(depth, kind),
             Part::Arguments => self.arguments(depth, kind),
+            Part::FirstArguments => self.first_arguments(depth, kind),
+            Part::FirstElement => self.first_element(depth, kind),
             Part::Redirections => self.redirections(depth, kind),
             Part::Redirection => self.redirection(depth, kind),
             Part::RedirectWord => self.redirect_word(depth, kind),

@@ -65,14 +65,25 @@ impl Reading {
         ensures { IsRead part.Simple depth kind result self.old.left.items self.new.left.items }
     {
         match kind {
-            Kind::Start | Kind::StartAssignment => {
+            Kind::Start => {
                 self.put(
                     depth,
                     &[
-                        Token(Any(Mode::Command, Words::AnyStart)),
+                        Token(One(Mode::Command, Kind::Start)),
                         P(Part::Text(Mode::Word)),
                         Token(One(Mode::Word, Kind::WordEnd)),
                         P(Part::Arguments),
+                    ],
+                )
+            }
+            Kind::StartAssignment => {
+                self.put(
+                    depth,
+                    &[
+                        Token(One(Mode::Command, Kind::StartAssignment)),
+                        P(Part::Text(Mode::Word)),
+                        Token(One(Mode::Word, Kind::WordEnd)),
+                        P(Part::FirstArguments),
                     ],
                 )
             }
@@ -81,8 +92,7 @@ impl Reading {
                     depth,
                     &[
                         Token(One(Mode::Command, Kind::Element)),
-                        P(Part::ElementValue),
-                        P(Part::Arguments),
+                        P(Part::FirstElement),
                     ],
                 )
             }
@@ -92,7 +102,16 @@ impl Reading {
                     &[
                         Token(One(Mode::Command, Kind::ValueOpen)),
                         P(Part::Value),
-                        P(Part::Arguments),
+                        P(Part::FirstArguments),
+                    ],
+                )
+            }
+            Kind::Assignment => {
+                self.put(
+                    depth,
+                    &[
+                        Token(One(Mode::Command, Kind::Assignment)),
+                        P(Part::FirstArguments),
                     ],
                 )
             }
@@ -102,14 +121,161 @@ impl Reading {
                         depth,
                         &[
                             Make(Mark::CommandWord),
+                            Make(Mark::CommandName),
                             Token(Any(Mode::Command, Words::CommandWord)),
                             P(Part::Arguments),
                         ],
                     )
                 } else {
-                    self.put(depth, &[P(Part::Redirection), P(Part::Arguments)])
+                    self.put(depth, &[P(Part::Redirection), P(Part::FirstArguments)])
                 }
             }
+        }
+    }
+
+    pub(crate) fn first_arguments(&mut self, depth: u8, kind: Kind) -> Result<Step, Memory>
+        ensures { IsRead part.FirstArguments depth kind result self.old.left.items self.new.left.items }
+    {
+        match kind {
+            Kind::Start => {
+                self.put(
+                    depth,
+                    &[
+                        Token(One(Mode::Command, Kind::Start)),
+                        P(Part::Text(Mode::Word)),
+                        Token(One(Mode::Word, Kind::WordEnd)),
+                        P(Part::Arguments),
+                    ],
+                )
+            }
+            Kind::StartAssignment => {
+                self.put(
+                    depth,
+                    &[
+                        Token(One(Mode::Command, Kind::StartAssignment)),
+                        P(Part::Text(Mode::Word)),
+                        Token(One(Mode::Word, Kind::WordEnd)),
+                        P(Part::FirstArguments),
+                    ],
+                )
+            }
+            Kind::Element => {
+                self.put(
+                    depth,
+                    &[
+                        Token(One(Mode::Command, Kind::Element)),
+                        P(Part::FirstElement),
+                    ],
+                )
+            }
+            Kind::ValueOpen => {
+                self.put(
+                    depth,
+                    &[
+                        Token(One(Mode::Command, Kind::ValueOpen)),
+                        P(Part::Value),
+                        P(Part::FirstArguments),
+                    ],
+                )
+            }
+            Kind::Assignment => {
+                self.put(
+                    depth,
+                    &[
+                        Token(One(Mode::Command, Kind::Assignment)),
+                        P(Part::FirstArguments),
+                    ],
+                )
+            }
+            Kind::Redirect | Kind::HereRedirect => {
+                self.put(depth, &[P(Part::Redirection), P(Part::FirstArguments)])
+            }
+            _ => {
+                if is_in(Words::NotAssignment, kind) {
+                    self.put(
+                        depth,
+                        &[
+                            Make(Mark::CommandName),
+                            Token(Any(Mode::Command, Words::NotAssignment)),
+                            P(Part::Arguments),
+                        ],
+                    )
+                } else {
+                    self.put(depth, &[Make(Mark::SimpleEnds)])
+                }
+            }
+        }
+    }
+
+    pub(crate) fn first_element(&mut self, depth: u8, kind: Kind) -> Result<Step, Memory>
+        ensures { IsRead part.FirstElement depth kind result self.old.left.items self.new.left.items }
+    {
+        match kind {
+            Kind::Open => {
+                self.put(
+                    depth,
+                    &[
+                        Token(One(Mode::Target, Kind::Open)),
+                        P(Part::Text(Mode::Subscript)),
+                        Make(Mark::SubscriptEnds),
+                        Token(One(Mode::Subscript, Kind::Close)),
+                        P(Part::FirstElement),
+                    ],
+                )
+            }
+            Kind::Member => {
+                self.put(
+                    depth,
+                    &[
+                        Token(One(Mode::Target, Kind::Member)),
+                        P(Part::FirstElement),
+                    ],
+                )
+            }
+            Kind::Assign => {
+                self.put(
+                    depth,
+                    &[
+                        Token(One(Mode::Target, Kind::Assign)),
+                        P(Part::Text(Mode::Word)),
+                        Token(One(Mode::Word, Kind::WordEnd)),
+                        P(Part::FirstArguments),
+                    ],
+                )
+            }
+            Kind::AddAssign => {
+                self.put(
+                    depth,
+                    &[
+                        Token(One(Mode::Target, Kind::AddAssign)),
+                        P(Part::Text(Mode::Word)),
+                        Token(One(Mode::Word, Kind::WordEnd)),
+                        P(Part::FirstArguments),
+                    ],
+                )
+            }
+            Kind::ValueOpen => {
+                self.put(
+                    depth,
+                    &[
+                        Token(One(Mode::Target, Kind::ValueOpen)),
+                        P(Part::Value),
+                        P(Part::FirstArguments),
+                    ],
+                )
+            }
+            Kind::Otherwise => {
+                self.put(
+                    depth,
+                    &[
+                        Token(One(Mode::Target, Kind::Otherwise)),
+                        P(Part::Text(Mode::Word)),
+                        Token(One(Mode::Word, Kind::WordEnd)),
+                        P(Part::Arguments),
+                    ],
+                )
+            }
+            _ => { Ok(Step::Refused) }
         }
     }
 
@@ -240,6 +406,7 @@ impl Reading {
                     &[
                         Token(One(Mode::Target, Kind::Open)),
                         P(Part::Text(Mode::Subscript)),
+                        Make(Mark::SubscriptEnds),
                         Token(One(Mode::Subscript, Kind::Close)),
                         P(Part::ElementValue),
                     ],

@@ -261,6 +261,7 @@ impl Reading {
                     &[
                         Token(One(Mode::Value, Kind::Key)),
                         P(Part::Text(Mode::Subscript)),
+                        Make(Mark::SubscriptEnds),
                         Token(One(Mode::Subscript, Kind::Close)),
                         P(Part::KeyValue),
                         P(Part::ItemsWords),
@@ -299,6 +300,7 @@ impl Reading {
                     &[
                         Token(One(Mode::Value, Kind::Key)),
                         P(Part::Text(Mode::Subscript)),
+                        Make(Mark::SubscriptEnds),
                         Token(One(Mode::Subscript, Kind::Close)),
                         P(Part::KeyValue),
                         P(Part::ItemsPairs),

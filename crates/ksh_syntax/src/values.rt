@@ -119,6 +119,7 @@ impl Reading {
                     &[
                         Token(One(Mode::Value, Kind::Key)),
                         P(Part::Text(Mode::Subscript)),
+                        Make(Mark::SubscriptEnds),
                         Token(One(Mode::Subscript, Kind::Close)),
                         P(Part::KeyValue),
                         P(Part::ItemsPairs),
@@ -258,6 +259,7 @@ impl Reading {
                     &[
                         Token(One(Mode::Value, Kind::Key)),
                         P(Part::Text(Mode::Subscript)),
+                        Make(Mark::SubscriptEnds),
                         Token(One(Mode::Subscript, Kind::Close)),
                         P(Part::KeyValue),
                         P(Part::ItemsWords),
@@ -328,6 +330,7 @@ impl Reading {
                     &[
                         Token(One(Mode::Target, Kind::Open)),
                         P(Part::Text(Mode::Subscript)),
+                        Make(Mark::SubscriptEnds),
                         Token(One(Mode::Subscript, Kind::Close)),
                         P(Part::ItemElement),
                     ],

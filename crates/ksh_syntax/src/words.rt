@@ -68,7 +68,10 @@ pub(crate) fn is_in(words: Words, kind: Kind) -> bool
     match words {
         Words::AnyWord => is_bare(kind),
         Words::FunctionName => names_function(kind),
-        Words::CommandWord => is_bare(kind) && !(is_reserved(kind) || names_function(kind)),
+        Words::CommandWord => {
+            is_bare(kind)
+                && !(is_reserved(kind) || names_function(kind) || kind == Kind::Assignment)
+        }
         Words::AnyStart => matches!(kind, Kind::Start | Kind::StartAssignment),
         Words::DottedName => names_function(kind) || is_reserved_name(kind),
         Words::RedirectStart => matches!(kind, Kind::Start | Kind::StartAssignment | Kind::Element),
@@ -140,8 +143,11 @@ impl Part {
             | Part::Operand
             | Part::AfterUnary
             | Part::AfterBinary => Mode::Condition,
-            Part::ElementValue | Part::ItemElement | Part::MemberElement | Part::KeyValue =>
-                Mode::Target,
+            Part::ElementValue
+            | Part::FirstElement
+            | Part::ItemElement
+            | Part::MemberElement
+            | Part::KeyValue => Mode::Target,
             Part::CaseItems | Part::PatternLine | Part::PatternRest | Part::PatternWord =>
                 Mode::Pattern,
             Part::Value
