@@ -1,5 +1,5 @@
 -- What becomes of the state by a token that was read.
-use Rattle.std.specs.Prelude.{ℕ, suc, ◌+◌, Bool, true, false, not, ◌&&◌, ◌==◌, List, [], ◌∷◌, ◌++◌, take, Option, Some, None, option_map, if◌then◌else◌}
+use Rattle.std.specs.Prelude.{ℕ, suc, ◌+◌, Bool, true, false, not, ◌==◌, List, [], ◌∷◌, ◌++◌, take, Option, Some, None, option_map, if◌then◌else◌}
 use Rattle.ksh_lexer.specs.declared.here.Body.{Body}
 use Rattle.ksh_lexer.specs.declared.here.HereDocument.{HereDocument}
 use Rattle.ksh_lexer.specs.declared.kind.Token.{Token}
@@ -8,8 +8,6 @@ use Rattle.ksh_lexer.specs.declared.kind.TokenKind.TheVariants as token
 use Rattle.ksh_lexer.specs.declared.kind.Redirection.TheVariants.{HereTabs, HereDocument as HereOperation}
 use Rattle.ksh_lexer.specs.Awaited.{Lexing}
 use Rattle.ksh_lexer.specs.EndWord.{end_word, is_quoted}
-use Rattle.ksh_syntax.specs.declared.kind.Kind.{Kind}
-use Rattle.ksh_syntax.specs.declared.kind.Kind.TheVariants as kind
 use Rattle.ksh_syntax.specs.declared.part.Mark.{Mark}
 use Rattle.ksh_syntax.specs.declared.part.Mark.TheVariants as mark
 use Rattle.ksh_scan.specs.declared.opening.HereOperator.{HereOperator}
@@ -54,18 +52,14 @@ abbrev pub awaiting : Option (HereOperator × List ℕ) → Lexing → Lexing
 awaiting None l = l
 awaiting (Some w) l = (l.0, l.1, l.2 ++ document w ∷ [])
 
-abbrev pub is_assignment : Kind → Bool
-is_assignment kind.Assignment = true
-is_assignment _ = false
-
 abbrev pub tells_command_word : List Mark → Bool
 tells_command_word [] = false
 tells_command_word (mark.CommandWord ∷ marks) = true
 tells_command_word (_ ∷ marks) = tells_command_word marks
 
--- the place of a token that begins a command and can't name a function, but for assignments
+-- the place of a token that begins a command and can't name a function
 abbrev pub command_word : List Mark → Seen → Option ℕ
-command_word marks n = if tells_command_word marks && not (is_assignment n.kind) then Some n.token.from else None
+command_word marks n = if tells_command_word marks then Some n.token.from else None
 
 abbrev pub body_source : List ℕ → Body → Source
 body_source text b = record { lexer = (take b.to text, b.from, []); tabs = b.tabs; expands = b.expands; openings = [] }

@@ -10,7 +10,7 @@ use crate::see::Seen;
 use crate::state::{Source, State};
 use ksh_base::{Items, Memory};
 use ksh_lexer::{Body, HereDocument, Redirection, Token, TokenKind, end_word, is_quoted};
-use ksh_syntax::{Kind, Mark};
+use ksh_syntax::Mark;
 use std::alloc::Global;
 use std::mem::replace;
 
@@ -101,7 +101,7 @@ fn command_word(marks: &[Mark], seen: Seen) -> Option<u32>
     requires { (seen.token.from ≤ seen.token.to) × (seen.token.to ≤ longest_text) }
     ensures { result ≡ command_word marks.now seen }
 {
-    if tells_command_word(marks) && seen.kind != Kind::Assignment {
+    if tells_command_word(marks) {
         Some(seen.token.from as u32)
     } else {
         None

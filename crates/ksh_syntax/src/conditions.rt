@@ -114,11 +114,7 @@ impl Reading {
             _ => {
                 self.put(
                     depth,
-                    &[
-                        P(Part::Term),
-                        Make(Mark::TermEnds),
-                        P(Part::ConditionLines),
-                    ],
+                    &[P(Part::Term), Make(Mark::TermEnds), P(Part::ConditionLines)],
                 )
             }
         }

@@ -61,10 +61,7 @@ impl Reading {
                 ),
                 _ => Ok(Step::Refused)
             },
-            _ => self.put(
-                depth,
-                &[Make(Mark::AndOrBegins), P(Part::Commands(ending))],
-            ),
+            _ => self.put(depth, &[Make(Mark::AndOrBegins), P(Part::Commands(ending))]),
         }
     }
 
@@ -76,10 +73,7 @@ impl Reading {
                 depth,
                 &[P(Part::Line), P(Part::Body(ending))],
             ),
-            _ => self.put(
-                depth,
-                &[Make(Mark::AndOrBegins), P(Part::Commands(ending))],
-            ),
+            _ => self.put(depth, &[Make(Mark::AndOrBegins), P(Part::Commands(ending))]),
         }
     }
 
@@ -95,10 +89,7 @@ impl Reading {
                     P(Part::Piped(ending)),
                 ],
             ),
-            _ => self.put(
-                depth,
-                &[Make(Mark::PipelineBegins), P(Part::Piped(ending))],
-            ),
+            _ => self.put(depth, &[Make(Mark::PipelineBegins), P(Part::Piped(ending))]),
         }
     }
 

@@ -228,7 +228,7 @@ pub enum Mark {
     Opens,
     /// The next token closes what was opened last.
     Closes,
-    /// The next token is a whole word that begins a simple command and can't name a function.
+    /// The next token is a whole word that begins a simple command, no assignment, and can't name a function.
     CommandWord,
     /// The next token is a whole word that names a simple command, or a function that `()` defines.
     CommandName,
