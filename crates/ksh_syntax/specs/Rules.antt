@@ -360,7 +360,7 @@ rules part.ItemsMembers =
     ∷ (one mode.Value kind.Element ∷ Part part.MemberElement ∷ Part part.ItemsMembers ∷ [])
     ∷ (one mode.Value kind.ValueOpen ∷ Part part.Value ∷ Part part.ItemsMembers ∷ [])
     ∷ (one mode.Value kind.Typeset ∷ Part part.TypesetMember ∷ [])
-    ∷ (one mode.Value kind.Function ∷ Token (Any mode.Value words.DottedName) ∷ Part part.ValueLines ∷ Make mark.Opens ∷ one mode.Value kind.LeftBrace ∷ Inside (part.Body ending.Word) ∷ Make mark.Closes ∷ one mode.Command kind.RightBrace ∷ Part part.MemberRedirections ∷ [])
+    ∷ (one mode.Value kind.Function ∷ Token (Any mode.Value words.DottedName) ∷ Part part.ValueLines ∷ Make mark.MemberBody ∷ Make mark.Opens ∷ one mode.Value kind.LeftBrace ∷ Inside (part.Body ending.Word) ∷ Make mark.Closes ∷ one mode.Command kind.RightBrace ∷ Part part.MemberRedirections ∷ [])
     ∷ (Token (Any mode.Value words.MemberName) ∷ Part part.MemberFunction ∷ [])
     ∷ []
 rules part.ValueLines = [] ∷ (Part part.ValueLine ∷ Part part.ValueLines ∷ []) ∷ []
@@ -399,7 +399,7 @@ rules part.ItemsFunction =
 rules part.ItemsBrace =
     (Make mark.Closes ∷ one mode.Value kind.Close ∷ [])
     ∷ (Part part.ValueLine ∷ Part part.ItemsBrace ∷ [])
-    ∷ (Make mark.Opens ∷ one mode.Value kind.LeftBrace ∷ Inside (part.Body ending.Word) ∷ Make mark.Closes ∷ one mode.Command kind.RightBrace ∷ Part part.MemberRedirections ∷ [])
+    ∷ (Make mark.MemberBody ∷ Make mark.Opens ∷ one mode.Value kind.LeftBrace ∷ Inside (part.Body ending.Word) ∷ Make mark.Closes ∷ one mode.Command kind.RightBrace ∷ Part part.MemberRedirections ∷ [])
     ∷ (one mode.Value kind.Assignment ∷ Part part.ItemsWords ∷ [])
     ∷ (one mode.Value kind.StartAssignment ∷ Part (part.Text mode.Word) ∷ one mode.Word kind.WordEnd ∷ Part part.ItemsWords ∷ [])
     ∷ (Token (Any mode.Value words.NotBrace) ∷ Part part.ItemsWords ∷ [])

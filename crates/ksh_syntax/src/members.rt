@@ -141,6 +141,7 @@ impl Reading {
                         Token(One(Mode::Value, Kind::Function)),
                         Token(Any(Mode::Value, Words::DottedName)),
                         P(Part::ValueLines),
+                        Make(Mark::MemberBody),
                         Make(Mark::Opens),
                         Token(One(Mode::Value, Kind::LeftBrace)),
                         Inside(Part::Body(Ending::Word)),

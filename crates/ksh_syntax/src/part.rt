@@ -242,4 +242,6 @@ pub enum Mark {
     SimpleBegins,
     /// A term of a condition ends, and what the `!`s before it negate.
     TermEnds,
+    /// The next token is the `{` of a function among the members of a value.
+    MemberBody,
 }

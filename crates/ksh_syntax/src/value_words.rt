@@ -89,6 +89,7 @@ impl Reading {
                 self.put(
                     depth,
                     &[
+                        Make(Mark::MemberBody),
                         Make(Mark::Opens),
                         Token(One(Mode::Value, Kind::LeftBrace)),
                         Inside(Part::Body(Ending::Word)),
