@@ -1,7 +1,5 @@
 -- Whether two parts of trees are equal, by settling one pair of parts after another.
-use Rattle.std.specs.Prelude.{◌≡◌, ◌↔◌, Bool, IsTrue, List, [], ◌∷◌, reverse, ⊥}
-use Rattle.ksh_ast.specs.declared.tree.Command.{Command}
-use Rattle.ksh_ast.specs.declared.tree.Command.TheVariants as command
+use Rattle.std.specs.Prelude.{◌≡◌, ◌↔◌, Bool, IsTrue, List, [], ◌∷◌, reverse}
 use Rattle.ast_equal.specs.declared.unsettled.Sides.{Sides}
 use Rattle.ast_equal.specs.declared.unsettled.Sides.TheVariants as sides
 use Rattle.ast_equal.specs.declared.unsettled.Unsettled.{Unsettled}
@@ -37,11 +35,3 @@ waiting u = reverse u.sides.items
 -- That something is equal, and what waited before, comes to the answer and what waits after it.
 abbrev pub ComesTo : Type 0 → Unsettled → Bool → Unsettled → Type 0
 ComesTo equal before answer after = (equal × AllEqual (waiting before)) ↔ (IsTrue answer × AllEqual (waiting after))
-
--- A command that runs a list again and again.
-abbrev pub IsRepeating : Command → Type 0
-IsRepeating (command.Loop until test body redirects) = Unit {0}
-IsRepeating (command.For name words body redirects) = Unit {0}
-IsRepeating (command.ForArith first test step body redirects) = Unit {0}
-IsRepeating (command.Select name words body redirects) = Unit {0}
-IsRepeating _ = ⊥

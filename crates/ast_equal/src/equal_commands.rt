@@ -1,7 +1,9 @@
 //! Whether two commands are equal, one level at a time.
 ghost use Rattle.std.specs.Prelude.{◌≡◌, IfOk};
-ghost use Rattle.ast_equal.specs.Equal.{ComesTo, IsRepeating};
-ghost use Rattle.ksh_ast.specs.declared.tree.Command.TheVariants.{Simple, Arith, Cond, Group, Subshell, If, Loop, For, ForArith, Case, Select, Function, Pipeline, AndOr, Not, Background};
+ghost use Rattle.ast_equal.specs.Equal.{ComesTo};
+ghost use Rattle.ast_equal.specs.Repeating.{IsRepeating};
+ghost use Rattle.ksh_ast.specs.declared.tree.Command.TheVariants as command;
+ghost use Rattle.ksh_ast.specs.declared.tree.Command.TheVariants.{Simple, Cond, Group, Subshell, If, Loop, For, ForArith, Case, Select, Function, Pipeline, AndOr, Not, Background};
 
 use crate::equal_assigns::compare_definition;
 use crate::equal_words::compare_arith;
@@ -239,7 +241,7 @@ fn compare_numeric<'a>(
     right: &'a Command,
     unsettled: &mut Unsettled<'a>,
 ) -> Result<bool, Memory>
-    ensures { IfOk result (λ same. ComesTo (Arith text.now redirects.now ≡ right.now) unsettled.old same unsettled.new) }
+    ensures { IfOk result (λ same. ComesTo (command.Arith text.now redirects.now ≡ right.now) unsettled.old same unsettled.new) }
 {
     let Command::Arith {
         text: right_text,
@@ -586,11 +588,14 @@ pub fn compare_command<'a>(
         Command::Function { definition } => compare_function(definition, right, unsettled),
         Command::Pipeline { members } => compare_pipeline(members, right, unsettled),
         Command::Not { inner } => compare_not(inner, right, unsettled),
-        _ => compare_repeating(left, right, unsettled),
+        Command::Loop { .. } => compare_repeating(left, right, unsettled),
+        Command::For { .. } => compare_repeating(left, right, unsettled),
+        Command::ForArith { .. } => compare_repeating(left, right, unsettled),
+        Command::Select { .. } => compare_repeating(left, right, unsettled),
     }
 }
 
-/// The forms that run a list again and again; what it answers of another form says nothing.
+/// The forms that run a list again and again.
 fn compare_repeating<'a>(
     left: &'a Command,
     right: &'a Command,
