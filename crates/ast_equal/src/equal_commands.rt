@@ -1,7 +1,6 @@
 //! Whether two commands are equal, one level at a time.
 ghost use Rattle.std.specs.Prelude.{◌≡◌, IfOk};
 ghost use Rattle.ast_equal.specs.Equal.{ComesTo};
-ghost use Rattle.ast_equal.specs.Repeating.{IsRepeating};
 ghost use Rattle.ksh_ast.specs.declared.tree.Command.TheVariants as command;
 ghost use Rattle.ksh_ast.specs.declared.tree.Command.TheVariants.{Simple, Cond, Group, Subshell, If, Loop, For, ForArith, Case, Select, Function, Pipeline, AndOr, Not, Background};
 
@@ -116,9 +115,12 @@ fn compare_case_item<'a>(
 ) -> Result<bool, Memory>
     ensures { IfOk result (λ same. ComesTo (left.now ≡ right.now) unsettled.old same unsettled.new) }
 {
+    if left.falls != right.falls {
+        return Ok(false);
+    }
     unsettled.push(Sides::Words(left.patterns.as_slice(), right.patterns.as_slice()))?;
     unsettled.push(Sides::Items(left.body.get().as_slice(), right.body.get().as_slice()))?;
-    Ok(left.falls == right.falls)
+    Ok(true)
 }
 
 pub fn compare_links<'a>(
@@ -588,20 +590,16 @@ pub fn compare_command<'a>(
         Command::Function { definition } => compare_function(definition, right, unsettled),
         Command::Pipeline { members } => compare_pipeline(members, right, unsettled),
         Command::Not { inner } => compare_not(inner, right, unsettled),
-        Command::Loop { .. } => compare_repeating(left, right, unsettled),
-        Command::For { .. } => compare_repeating(left, right, unsettled),
-        Command::ForArith { .. } => compare_repeating(left, right, unsettled),
-        Command::Select { .. } => compare_repeating(left, right, unsettled),
+        _ => compare_loops(left, right, unsettled),
     }
 }
 
-/// The forms that run a list again and again.
-fn compare_repeating<'a>(
+/// Looks at a loop on the left; any other form stays unsettled.
+fn compare_loops<'a>(
     left: &'a Command,
     right: &'a Command,
     unsettled: &mut Unsettled<'a>,
 ) -> Result<bool, Memory>
-    requires { IsRepeating left.now }
     ensures { IfOk result (λ same. ComesTo (left.now ≡ right.now) unsettled.old same unsettled.new) }
 {
     match left {
@@ -630,6 +628,9 @@ fn compare_repeating<'a>(
             body,
             redirects,
         } => compare_select(name, words, body, redirects, right, unsettled),
-        _ => Ok(false),
+        _ => {
+            unsettled.push(Sides::Command(left, right))?;
+            Ok(true)
+        }
     }
 }
