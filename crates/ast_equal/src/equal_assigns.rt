@@ -208,6 +208,12 @@ fn compare_argument<'a>(
     }
 }
 
+fn name_equals(left: &Name, right: &Name) -> bool
+    ensures { IsTrue result ↔ (left.now ≡ right.now) }
+{
+    left == right
+}
+
 fn names_equal(left: &[Name], right: &[Name]) -> bool
     ensures { IsTrue result ↔ (left.now ≡ right.now) }
 {
@@ -215,7 +221,7 @@ fn names_equal(left: &[Name], right: &[Name]) -> bool
         return false;
     }
     for i in 0..left.len() {
-        if left[i] != right[i] {
+        if !name_equals(&left[i], &right[i]) {
             return false;
         }
     }

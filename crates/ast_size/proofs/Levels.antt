@@ -69,9 +69,9 @@ pub expr_chain : (first : ArithExpr) (rest : List ArithLink) → size_of_expr (e
 unfolding size_of_expr size_of_link
 expr_chain first rest = ap size_of_expr (sym (expr.rolls-Chain first rest)) ∙ fold-roll-ArithExpr ℕ ℕ expr_step link_step (ArithExpr-F.Chain first rest)
 
-pub expr_choice : (test : ArithExpr) (yes : ArithExpr) (no : ArithExpr) → size_of_expr (expr.Choice test yes no) ≡ 1 + size_of_expr test + size_of_expr yes + size_of_expr no
+pub expr_choice : (test : ArithExpr) (first : ArithExpr) (second : ArithExpr) → size_of_expr (expr.Choice test first second) ≡ 1 + size_of_expr test + size_of_expr first + size_of_expr second
 unfolding size_of_expr size_of_link
-expr_choice test yes no = ap size_of_expr (sym (expr.rolls-Choice test yes no)) ∙ fold-roll-ArithExpr ℕ ℕ expr_step link_step (ArithExpr-F.Choice test yes no)
+expr_choice test first second = ap size_of_expr (sym (expr.rolls-Choice test first second)) ∙ fold-roll-ArithExpr ℕ ℕ expr_step link_step (ArithExpr-F.Choice test first second)
 
 pub expr_assign : (path : ArithPath) (op : Option BinaryOp) (value : ArithExpr) → size_of_expr (expr.Assign path op value) ≡ 1 + length path.parts + size_of_expr value
 unfolding size_of_expr size_of_link

@@ -73,7 +73,7 @@ expr_step (ArithExpr-F.Unary op operand) = 1 + operand
 expr_step (ArithExpr-F.Step path way) = 1 + length path.parts
 expr_step (ArithExpr-F.Power base exponent) = 1 + base + exponent
 expr_step (ArithExpr-F.Chain first links) = 1 + first + total links
-expr_step (ArithExpr-F.Choice test yes no) = 1 + test + yes + no
+expr_step (ArithExpr-F.Choice test first second) = 1 + test + first + second
 expr_step (ArithExpr-F.Assign path op value) = 1 + length path.parts + value
 
 abbrev pub link_step : ArithLink-F ℕ ℕ → ℕ
