@@ -62,7 +62,9 @@ pub fn compare_expr<'a>(
         ArithExpr::Step { path, way } => step_equals(path, way, right, unsettled),
         ArithExpr::Power(base, exponent) => compare_power(base, exponent, right, unsettled),
         ArithExpr::Chain(first, rest) => compare_chain(first, rest, right, unsettled),
-        ArithExpr::Choice(test, yes, no) => compare_choice(test, yes, no, right, unsettled),
+        ArithExpr::Choice(test, first, second) => {
+            compare_choice(test, first, second, right, unsettled)
+        },
         ArithExpr::Assign { path, op, value } => compare_assign(path, op, value, right, unsettled),
     }
 }
@@ -134,19 +136,19 @@ fn compare_chain<'a>(
 
 fn compare_choice<'a>(
     test: &'a Boxed<ArithExpr>,
-    yes: &'a Boxed<ArithExpr>,
-    no: &'a Boxed<ArithExpr>,
+    first: &'a Boxed<ArithExpr>,
+    second: &'a Boxed<ArithExpr>,
     right: &'a ArithExpr,
     unsettled: &mut Unsettled<'a>,
 ) -> Result<bool, Memory>
-    ensures { IfOk result (λ same. ComesTo (Choice test.now yes.now no.now ≡ right.now) unsettled.old same unsettled.new) }
+    ensures { IfOk result (λ same. ComesTo (Choice test.now first.now second.now ≡ right.now) unsettled.old same unsettled.new) }
 {
-    let ArithExpr::Choice(right_test, right_yes, right_no) = right else {
+    let ArithExpr::Choice(right_test, right_first, right_second) = right else {
         return Ok(false);
     };
     unsettled.push(Sides::Expr(test.get(), right_test.get()))?;
-    unsettled.push(Sides::Expr(yes.get(), right_yes.get()))?;
-    unsettled.push(Sides::Expr(no.get(), right_no.get()))?;
+    unsettled.push(Sides::Expr(first.get(), right_first.get()))?;
+    unsettled.push(Sides::Expr(second.get(), right_second.get()))?;
     Ok(true)
 }
 

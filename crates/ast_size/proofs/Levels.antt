@@ -38,44 +38,44 @@ use Rattle.ksh_ast.specs.declared.tree.Test.TheVariants as test
 use Rattle.ksh_ast.specs.declared.tree.TreePart.{TreePart, TreePart-F, fold-roll-TreePart}
 use Rattle.ksh_ast.specs.declared.tree.TreePart.TheVariants as part
 use Rattle.ksh_ast.specs.declared.tree.Assign.{Assign, fold_out-Assign}
-use Rattle.ksh_ast.specs.declared.tree.CaseItem.{CaseItem, fold_out-CaseItem}
+use Rattle.ksh_ast.specs.declared.tree.CaseItem.{CaseItem, out-CaseItem, fold_out-CaseItem}
 use Rattle.ksh_ast.specs.declared.tree.Item.{Item, fold_out-Item}
 use Rattle.ksh_ast.specs.declared.tree.Param.{Param, fold_out-Param}
 use Rattle.ksh_ast.specs.declared.tree.Term.{Term, fold_out-Term}
 use Rattle.ksh_ast.specs.declared.tree.TreePath.{TreePath, fold_out-TreePath}
 use Rattle.ast_size.specs.Size.{total, total_all, total_pairs, total_redirects, total_arms, total_links, if_there, total_if_there, total_all_if_there, expr_step, link_step, size_of_expr, size_of_link, argument_step, arith_step, value_step, command_step, member_step, form_step, of_step, piece_step, test_step, part_step, assign_step, case_item_step, item_step, param_step, term_step, path_step, size_of_argument, size_of_arith, size_of_value, size_of_command, size_of_member, size_of_form, size_of_of, size_of_piece, size_of_test, size_of_part, size_of_assign, size_of_case_item, size_of_item, size_of_param, size_of_term, size_of_path, size_of_pieces, size_of_words, size_of_items, size_of_condition, pair_sizes, redirect_sizes, size_of_redirects, arm_sizes, link_size, arith_if_there, size_if_there, word_if_there, words_if_there}
 
-pub expr_number : (n : ℤ) → size_of_expr (expr.Number n) ≡ 1
+pub node_number : (n : ℤ) → size_of_expr (expr.Number n) ≡ 1
 unfolding size_of_expr size_of_link
-expr_number n = ap size_of_expr (sym (expr.rolls-Number n)) ∙ fold-roll-ArithExpr ℕ ℕ expr_step link_step (ArithExpr-F.Number n)
+node_number n = ap size_of_expr (sym (expr.rolls-Number n)) ∙ fold-roll-ArithExpr ℕ ℕ expr_step link_step (ArithExpr-F.Number n)
 
-pub expr_variable : (path : ArithPath) → size_of_expr (expr.Variable path) ≡ 1 + length path.parts
+pub node_variable : (path : ArithPath) → size_of_expr (expr.Variable path) ≡ 1 + length path.parts
 unfolding size_of_expr size_of_link
-expr_variable path = ap size_of_expr (sym (expr.rolls-Variable path)) ∙ fold-roll-ArithExpr ℕ ℕ expr_step link_step (ArithExpr-F.Variable path)
+node_variable path = ap size_of_expr (sym (expr.rolls-Variable path)) ∙ fold-roll-ArithExpr ℕ ℕ expr_step link_step (ArithExpr-F.Variable path)
 
-pub expr_unary : (op : UnaryOp) (operand : ArithExpr) → size_of_expr (expr.Unary op operand) ≡ 1 + size_of_expr operand
+pub node_unary : (op : UnaryOp) (operand : ArithExpr) → size_of_expr (expr.Unary op operand) ≡ 1 + size_of_expr operand
 unfolding size_of_expr size_of_link
-expr_unary op operand = ap size_of_expr (sym (expr.rolls-Unary op operand)) ∙ fold-roll-ArithExpr ℕ ℕ expr_step link_step (ArithExpr-F.Unary op operand)
+node_unary op operand = ap size_of_expr (sym (expr.rolls-Unary op operand)) ∙ fold-roll-ArithExpr ℕ ℕ expr_step link_step (ArithExpr-F.Unary op operand)
 
-pub expr_step : (path : ArithPath) (way : StepWay) → size_of_expr (expr.Step path way) ≡ 1 + length path.parts
+pub node_step : (path : ArithPath) (way : StepWay) → size_of_expr (expr.Step path way) ≡ 1 + length path.parts
 unfolding size_of_expr size_of_link
-expr_step path way = ap size_of_expr (sym (expr.rolls-Step path way)) ∙ fold-roll-ArithExpr ℕ ℕ expr_step link_step (ArithExpr-F.Step path way)
+node_step path way = ap size_of_expr (sym (expr.rolls-Step path way)) ∙ fold-roll-ArithExpr ℕ ℕ expr_step link_step (ArithExpr-F.Step path way)
 
-pub expr_power : (base : ArithExpr) (exponent : ArithExpr) → size_of_expr (expr.Power base exponent) ≡ 1 + size_of_expr base + size_of_expr exponent
+pub node_power : (base : ArithExpr) (exponent : ArithExpr) → size_of_expr (expr.Power base exponent) ≡ 1 + size_of_expr base + size_of_expr exponent
 unfolding size_of_expr size_of_link
-expr_power base exponent = ap size_of_expr (sym (expr.rolls-Power base exponent)) ∙ fold-roll-ArithExpr ℕ ℕ expr_step link_step (ArithExpr-F.Power base exponent)
+node_power base exponent = ap size_of_expr (sym (expr.rolls-Power base exponent)) ∙ fold-roll-ArithExpr ℕ ℕ expr_step link_step (ArithExpr-F.Power base exponent)
 
-pub expr_chain : (first : ArithExpr) (rest : List ArithLink) → size_of_expr (expr.Chain first rest) ≡ 1 + size_of_expr first + total (map size_of_link rest)
+pub node_chain : (first : ArithExpr) (rest : List ArithLink) → size_of_expr (expr.Chain first rest) ≡ 1 + size_of_expr first + total (map size_of_link rest)
 unfolding size_of_expr size_of_link
-expr_chain first rest = ap size_of_expr (sym (expr.rolls-Chain first rest)) ∙ fold-roll-ArithExpr ℕ ℕ expr_step link_step (ArithExpr-F.Chain first rest)
+node_chain first rest = ap size_of_expr (sym (expr.rolls-Chain first rest)) ∙ fold-roll-ArithExpr ℕ ℕ expr_step link_step (ArithExpr-F.Chain first rest)
 
-pub expr_choice : (test : ArithExpr) (first : ArithExpr) (second : ArithExpr) → size_of_expr (expr.Choice test first second) ≡ 1 + size_of_expr test + size_of_expr first + size_of_expr second
+pub node_choice : (test : ArithExpr) (first : ArithExpr) (second : ArithExpr) → size_of_expr (expr.Choice test first second) ≡ 1 + size_of_expr test + size_of_expr first + size_of_expr second
 unfolding size_of_expr size_of_link
-expr_choice test first second = ap size_of_expr (sym (expr.rolls-Choice test first second)) ∙ fold-roll-ArithExpr ℕ ℕ expr_step link_step (ArithExpr-F.Choice test first second)
+node_choice test first second = ap size_of_expr (sym (expr.rolls-Choice test first second)) ∙ fold-roll-ArithExpr ℕ ℕ expr_step link_step (ArithExpr-F.Choice test first second)
 
-pub expr_assign : (path : ArithPath) (op : Option BinaryOp) (value : ArithExpr) → size_of_expr (expr.Assign path op value) ≡ 1 + length path.parts + size_of_expr value
+pub node_assign : (path : ArithPath) (op : Option BinaryOp) (value : ArithExpr) → size_of_expr (expr.Assign path op value) ≡ 1 + length path.parts + size_of_expr value
 unfolding size_of_expr size_of_link
-expr_assign path op value = ap size_of_expr (sym (expr.rolls-Assign path op value)) ∙ fold-roll-ArithExpr ℕ ℕ expr_step link_step (ArithExpr-F.Assign path op value)
+node_assign path op value = ap size_of_expr (sym (expr.rolls-Assign path op value)) ∙ fold-roll-ArithExpr ℕ ℕ expr_step link_step (ArithExpr-F.Assign path op value)
 
 pub link_operand : (l : ArithLink) → size_of_link l ≡ size_of_expr l.operand
 unfolding size_of_expr size_of_link
@@ -304,7 +304,7 @@ pub assign_parts : (a : Assign) → size_of_assign a ≡ 1 + size_of_path a.path
 unfolding size_of_argument size_of_arith size_of_value size_of_command size_of_member size_of_form size_of_of size_of_piece size_of_test size_of_part size_of_assign size_of_case_item size_of_item size_of_param size_of_term size_of_path
 assign_parts a = fold_out-Assign ℕ ℕ ℕ ℕ ℕ ℕ ℕ ℕ ℕ ℕ ℕ ℕ ℕ ℕ ℕ ℕ argument_step arith_step value_step command_step member_step form_step of_step piece_step test_step part_step assign_step case_item_step item_step param_step term_step path_step a
 
-pub case_item_parts : (i : CaseItem) → size_of_case_item i ≡ size_of_words i.patterns + size_of_items i.body
+pub case_item_parts : (i : CaseItem) → size_of_case_item i ≡ size_of_words (out-CaseItem i).patterns + size_of_items (out-CaseItem i).body
 unfolding size_of_argument size_of_arith size_of_value size_of_command size_of_member size_of_form size_of_of size_of_piece size_of_test size_of_part size_of_assign size_of_case_item size_of_item size_of_param size_of_term size_of_path
 case_item_parts i = fold_out-CaseItem ℕ ℕ ℕ ℕ ℕ ℕ ℕ ℕ ℕ ℕ ℕ ℕ ℕ ℕ ℕ ℕ argument_step arith_step value_step command_step member_step form_step of_step piece_step test_step part_step assign_step case_item_step item_step param_step term_step path_step i
 
@@ -324,7 +324,7 @@ pub path_parts : (p : TreePath) → size_of_path p ≡ total (map size_of_part p
 unfolding size_of_argument size_of_arith size_of_value size_of_command size_of_member size_of_form size_of_of size_of_piece size_of_test size_of_part size_of_assign size_of_case_item size_of_item size_of_param size_of_term size_of_path
 path_parts p = fold_out-TreePath ℕ ℕ ℕ ℕ ℕ ℕ ℕ ℕ ℕ ℕ ℕ ℕ ℕ ℕ ℕ ℕ argument_step arith_step value_step command_step member_step form_step of_step piece_step test_step part_step assign_step case_item_step item_step param_step term_step path_step p
 
-pub ruleset expressions = (expr_number, expr_variable, expr_unary, expr_step, expr_power, expr_chain, expr_choice, expr_assign, link_operand)
+pub ruleset expressions = (node_number, node_variable, node_unary, node_step, node_power, node_chain, node_choice, node_assign, link_operand)
 
 pub ruleset form_sizes = (form_plain, form_instead, form_assign, form_fault, form_other, form_length, form_cut, form_slice, form_replace, form_target)
 

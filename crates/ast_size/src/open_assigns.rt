@@ -19,7 +19,7 @@ pub fn open_assigns<'a>(assigns: &'a [Assign], left: &mut Left<'a>) -> Result<u6
 }
 
 /// An assignment, its path and its value.
-#[tactic(auto, using(crate::proofs::Levels::assign_parts))]
+#[tactic(auto, using(crate::proofs::Levels::assign_parts, crate::proofs::Levels::path_parts))]
 pub fn open_assign<'a>(assign: &'a Assign, left: &mut Left<'a>) -> Result<u64, Memory>
     ensures { IfOk result (λ nodes. Adds nodes (size_of_assign assign.now) left.old left.new) }
 {

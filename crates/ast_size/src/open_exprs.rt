@@ -26,9 +26,9 @@ pub fn open_expr<'a>(expr: &'a ArithExpr, left: &mut Left<'a>) -> Result<u64, Me
             let first = Part::Expr(first.get());
             left.put(1, first, Part::ArithLinks(rest.as_slice()), Part::Nothing)
         }
-        ArithExpr::Choice(test, yes, no) => {
+        ArithExpr::Choice(test, first, second) => {
             let test = Part::Expr(test.get());
-            left.put(1, test, Part::Expr(yes.get()), Part::Expr(no.get()))
+            left.put(1, test, Part::Expr(first.get()), Part::Expr(second.get()))
         }
         ArithExpr::Assign { path, value, .. } => {
             let path = Part::ArithPath(path.parts.as_slice());
