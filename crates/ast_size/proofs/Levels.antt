@@ -1,5 +1,5 @@
 -- What each form of the tree has for its size, by the sizes of what it holds.
-use Rattle.std.proofs.Common.{◌≡◌, ℕ, ◌+◌, Bool, Option, Some, None, List, map, length, refl, ap, sym, ◌∙◌}
+use Rattle.std.proofs.Common.{◌≡◌, ℕ, ◌+◌, Bool, Option, Some, None, List, map, length, ap, sym, ◌∙◌}
 use Rattle.std.specs.Prelude.{ℤ}
 use Rattle.arith_tree.specs.declared.expr.ArithExpr.{ArithExpr, ArithExpr-F, fold-roll-ArithExpr}
 use Rattle.arith_tree.specs.declared.expr.ArithExpr.TheVariants as expr
@@ -21,21 +21,21 @@ use Rattle.ksh_ast.specs.declared.tree.Argument.{Argument, Argument-F, fold-roll
 use Rattle.ksh_ast.specs.declared.tree.Argument.TheVariants as argument
 use Rattle.ksh_ast.specs.declared.tree.Arith.{Arith, Arith-F, fold-roll-Arith}
 use Rattle.ksh_ast.specs.declared.tree.Arith.TheVariants as arith
-use Rattle.ksh_ast.specs.declared.tree.AssignValue.{AssignValue, AssignValue-F, fold-roll-AssignValue}
+use Rattle.ksh_ast.specs.declared.tree.AssignValue.{AssignValue-F, fold-roll-AssignValue}
 use Rattle.ksh_ast.specs.declared.tree.AssignValue.TheVariants as value
 use Rattle.ksh_ast.specs.declared.tree.Command.{Command, Command-F, fold-roll-Command}
 use Rattle.ksh_ast.specs.declared.tree.Command.TheVariants as command
 use Rattle.ksh_ast.specs.declared.tree.Member.{Member, Member-F, fold-roll-Member}
 use Rattle.ksh_ast.specs.declared.tree.Member.TheVariants as member
-use Rattle.ksh_ast.specs.declared.tree.ParamForm.{ParamForm, ParamForm-F, fold-roll-ParamForm}
+use Rattle.ksh_ast.specs.declared.tree.ParamForm.{ParamForm-F, fold-roll-ParamForm}
 use Rattle.ksh_ast.specs.declared.tree.ParamForm.TheVariants as form
-use Rattle.ksh_ast.specs.declared.tree.ParamOf.{ParamOf, ParamOf-F, fold-roll-ParamOf}
+use Rattle.ksh_ast.specs.declared.tree.ParamOf.{ParamOf-F, fold-roll-ParamOf}
 use Rattle.ksh_ast.specs.declared.tree.ParamOf.TheVariants as of
 use Rattle.ksh_ast.specs.declared.tree.Piece.{Piece, Piece-F, fold-roll-Piece}
 use Rattle.ksh_ast.specs.declared.tree.Piece.TheVariants as piece
-use Rattle.ksh_ast.specs.declared.tree.Test.{Test, Test-F, fold-roll-Test}
+use Rattle.ksh_ast.specs.declared.tree.Test.{Test-F, fold-roll-Test}
 use Rattle.ksh_ast.specs.declared.tree.Test.TheVariants as test
-use Rattle.ksh_ast.specs.declared.tree.TreePart.{TreePart, TreePart-F, fold-roll-TreePart}
+use Rattle.ksh_ast.specs.declared.tree.TreePart.{TreePart-F, fold-roll-TreePart}
 use Rattle.ksh_ast.specs.declared.tree.TreePart.TheVariants as part
 use Rattle.ksh_ast.specs.declared.tree.Assign.{Assign, fold_out-Assign}
 use Rattle.ksh_ast.specs.declared.tree.CaseItem.{CaseItem, out-CaseItem, fold_out-CaseItem}
@@ -43,7 +43,7 @@ use Rattle.ksh_ast.specs.declared.tree.Item.{Item, fold_out-Item}
 use Rattle.ksh_ast.specs.declared.tree.Param.{Param, fold_out-Param}
 use Rattle.ksh_ast.specs.declared.tree.Term.{Term, fold_out-Term}
 use Rattle.ksh_ast.specs.declared.tree.TreePath.{TreePath, fold_out-TreePath}
-use Rattle.ast_size.specs.Size.{total, total_all, total_pairs, total_redirects, total_arms, total_links, if_there, total_if_there, total_all_if_there, expr_step, link_step, size_of_expr, size_of_link, argument_step, arith_step, value_step, command_step, member_step, form_step, of_step, piece_step, test_step, part_step, assign_step, case_item_step, item_step, param_step, term_step, path_step, size_of_argument, size_of_arith, size_of_value, size_of_command, size_of_member, size_of_form, size_of_of, size_of_piece, size_of_test, size_of_part, size_of_assign, size_of_case_item, size_of_item, size_of_param, size_of_term, size_of_path, size_of_pieces, size_of_words, size_of_items, size_of_condition, pair_sizes, redirect_sizes, size_of_redirects, arm_sizes, link_size, arith_if_there, size_if_there, word_if_there, words_if_there}
+use Rattle.ast_size.specs.Size.{total, total_all, total_pairs, total_arms, total_links, expr_step, link_step, size_of_expr, size_of_link, argument_step, arith_step, value_step, command_step, member_step, form_step, of_step, piece_step, test_step, part_step, assign_step, case_item_step, item_step, param_step, term_step, path_step, size_of_argument, size_of_arith, size_of_value, size_of_command, size_of_member, size_of_form, size_of_of, size_of_piece, size_of_test, size_of_part, size_of_assign, size_of_case_item, size_of_item, size_of_param, size_of_term, size_of_path, size_of_pieces, size_of_words, size_of_items, size_of_condition, pair_sizes, size_of_redirects, arm_sizes, link_size, arith_if_there, size_if_there, word_if_there, words_if_there}
 
 pub node_number : (n : ℤ) → size_of_expr (expr.Number n) ≡ 1
 unfolding size_of_expr size_of_link

@@ -5,7 +5,6 @@ use Rattle.arith_tree.specs.declared.expr.ArithExpr.{ArithExpr, ArithExpr-F, fol
 use Rattle.arith_tree.specs.declared.expr.ArithLink.{ArithLink, ArithLink-F, fold-ArithLink}
 use Rattle.ksh_ast.specs.declared.redirect.Redirect.{Redirect}
 use Rattle.ksh_ast.specs.declared.tree.Arm.{Arm}
-use Rattle.ksh_ast.specs.declared.tree.FunctionDef.{FunctionDef}
 use Rattle.ksh_ast.specs.declared.tree.Link.{Link}
 use Rattle.ksh_ast.specs.declared.tree.Pair.{Pair}
 use Rattle.ksh_ast.specs.declared.tree.Script.{Script}
