@@ -1,9 +1,10 @@
 //! Whether two conditions are equal, one level at a time.
 ghost use Rattle.std.specs.Prelude.{◌≡◌, IfOk};
 ghost use Rattle.ast_equal.specs.Equal.{ComesTo};
+ghost use Rattle.ksh_ast.specs.declared.tree.Test.TheVariants.{Unary, Binary};
 
 use crate::unsettled::{Sides, Unsettled};
-use ksh_ast::{Term, Test};
+use ksh_ast::{BinaryTest, Term, Test, UnaryTest, Word};
 use ksh_base::{Items, Memory};
 
 pub fn compare_tests<'a>(
@@ -69,35 +70,12 @@ fn compare_test<'a>(
             },
             _ => Ok(false),
         },
-        Test::Unary {
-            op: left_op,
-            word: left,
-        } => match right {
-            Test::Unary {
-                op: right_op,
-                word: right,
-            } => {
-                unsettled.push(Sides::Pieces(left.as_slice(), right.as_slice()))?;
-                Ok(*left_op == *right_op)
-            },
-            _ => Ok(false),
-        },
+        Test::Unary { op, word } => compare_unary(op, word, right, unsettled),
         Test::Binary {
-            left: left_first,
-            op: left_op,
-            right: left_second,
-        } => match right {
-            Test::Binary {
-                left: right_first,
-                op: right_op,
-                right: right_second,
-            } => {
-                unsettled.push(Sides::Pieces(left_first.as_slice(), right_first.as_slice()))?;
-                unsettled.push(Sides::Pieces(left_second.as_slice(), right_second.as_slice()))?;
-                Ok(*left_op == *right_op)
-            },
-            _ => Ok(false),
-        },
+            left: first,
+            op,
+            right: second,
+        } => compare_binary(first, op, second, right, unsettled),
         Test::Word(left) => match right {
             Test::Word(right) => {
                 unsettled.push(Sides::Pieces(left.as_slice(), right.as_slice()))?;
@@ -106,4 +84,45 @@ fn compare_test<'a>(
             _ => Ok(false),
         },
     }
+}
+
+fn compare_unary<'a>(
+    op: &'a UnaryTest,
+    word: &'a Word,
+    right: &'a Test,
+    unsettled: &mut Unsettled<'a>,
+) -> Result<bool, Memory>
+    ensures { IfOk result (λ same. ComesTo (Unary op.now word.now ≡ right.now) unsettled.old same unsettled.new) }
+{
+    let Test::Unary {
+        op: right_op,
+        word: right_word,
+    } = right
+    else {
+        return Ok(false);
+    };
+    unsettled.push(Sides::Pieces(word.as_slice(), right_word.as_slice()))?;
+    Ok(*op == *right_op)
+}
+
+fn compare_binary<'a>(
+    first: &'a Word,
+    op: &'a BinaryTest,
+    second: &'a Word,
+    right: &'a Test,
+    unsettled: &mut Unsettled<'a>,
+) -> Result<bool, Memory>
+    ensures { IfOk result (λ same. ComesTo (Binary first.now op.now second.now ≡ right.now) unsettled.old same unsettled.new) }
+{
+    let Test::Binary {
+        left: right_first,
+        op: right_op,
+        right: right_second,
+    } = right
+    else {
+        return Ok(false);
+    };
+    unsettled.push(Sides::Pieces(first.as_slice(), right_first.as_slice()))?;
+    unsettled.push(Sides::Pieces(second.as_slice(), right_second.as_slice()))?;
+    Ok(*op == *right_op)
 }

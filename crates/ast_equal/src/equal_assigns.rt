@@ -1,11 +1,11 @@
 //! Whether two assignments, or two arguments, are equal, one level at a time.
-ghost use Rattle.std.specs.Prelude.{◌≡◌, IfOk};
+ghost use Rattle.std.specs.Prelude.{◌≡◌, ◌↔◌, IsTrue, IfOk};
 ghost use Rattle.ast_equal.specs.Equal.{ComesTo};
 
 use crate::equal_words::compare_path;
 use crate::unsettled::{Sides, Unsettled};
 use ksh_ast::{Argument, Assign, AssignValue, FunctionDef, List, Member, Pair, Word};
-use ksh_base::Memory;
+use ksh_base::{Memory, Name};
 
 pub fn compare_words<'a>(
     left: &'a [Word],
@@ -208,6 +208,26 @@ fn compare_argument<'a>(
     }
 }
 
+fn name_equals(left: &Name, right: &Name) -> bool
+    ensures { IsTrue result ↔ (left.now ≡ right.now) }
+{
+    left == right
+}
+
+fn names_equal(left: &[Name], right: &[Name]) -> bool
+    ensures { IsTrue result ↔ (left.now ≡ right.now) }
+{
+    if left.len() != right.len() {
+        return false;
+    }
+    for i in 0..left.len() {
+        if !name_equals(&left[i], &right[i]) {
+            return false;
+        }
+    }
+    true
+}
+
 pub fn compare_definition<'a>(
     left: &'a FunctionDef<List>,
     right: &'a FunctionDef<List>,
@@ -215,7 +235,15 @@ pub fn compare_definition<'a>(
 ) -> Result<bool, Memory>
     ensures { IfOk result (λ same. ComesTo (left.now ≡ right.now) unsettled.old same unsettled.new) }
 {
+    if left.own_scope != right.own_scope {
+        return Ok(false);
+    }
+    if left.text != right.text {
+        return Ok(false);
+    }
+    if !names_equal(left.name.as_slice(), right.name.as_slice()) {
+        return Ok(false);
+    }
     unsettled.push(Sides::Items(left.body.get().as_slice(), right.body.get().as_slice()))?;
-    let names = left.name.as_slice() == right.name.as_slice();
-    Ok(names && left.own_scope == right.own_scope && left.text == right.text)
+    Ok(true)
 }

@@ -1,7 +1,8 @@
 //! Whether two commands are equal, one level at a time.
 ghost use Rattle.std.specs.Prelude.{◌≡◌, IfOk};
 ghost use Rattle.ast_equal.specs.Equal.{ComesTo};
-ghost use Rattle.ksh_ast.specs.declared.tree.Command.TheVariants.{Simple, Arith, Cond, Group, Subshell, If, Loop, For, ForArith, Case, Select, Function, Pipeline, AndOr, Not, Background};
+ghost use Rattle.ksh_ast.specs.declared.tree.Command.TheVariants as command;
+ghost use Rattle.ksh_ast.specs.declared.tree.Command.TheVariants.{Simple, Cond, Group, Subshell, If, Loop, For, ForArith, Case, Select, Function, Pipeline, AndOr, Not, Background};
 
 use crate::equal_assigns::compare_definition;
 use crate::equal_words::compare_arith;
@@ -114,9 +115,12 @@ fn compare_case_item<'a>(
 ) -> Result<bool, Memory>
     ensures { IfOk result (λ same. ComesTo (left.now ≡ right.now) unsettled.old same unsettled.new) }
 {
+    if left.falls != right.falls {
+        return Ok(false);
+    }
     unsettled.push(Sides::Words(left.patterns.as_slice(), right.patterns.as_slice()))?;
     unsettled.push(Sides::Items(left.body.get().as_slice(), right.body.get().as_slice()))?;
-    Ok(left.falls == right.falls)
+    Ok(true)
 }
 
 pub fn compare_links<'a>(
@@ -233,13 +237,13 @@ fn compare_simple<'a>(
     Ok(true)
 }
 
-fn compare_arith_command<'a>(
+fn compare_numeric<'a>(
     text: &'a Arith,
     redirects: &'a Items<Redirect<Word>>,
     right: &'a Command,
     unsettled: &mut Unsettled<'a>,
 ) -> Result<bool, Memory>
-    ensures { IfOk result (λ same. ComesTo (Arith text.now redirects.now ≡ right.now) unsettled.old same unsettled.new) }
+    ensures { IfOk result (λ same. ComesTo (command.Arith text.now redirects.now ≡ right.now) unsettled.old same unsettled.new) }
 {
     let Command::Arith {
         text: right_text,
@@ -292,7 +296,7 @@ fn compare_group<'a>(
     Ok(true)
 }
 
-fn compare_subshell<'a>(
+fn compare_child<'a>(
     body: &'a List,
     redirects: &'a Items<Redirect<Word>>,
     right: &'a Command,
@@ -488,7 +492,7 @@ fn compare_and_or<'a>(
     Ok(true)
 }
 
-fn compare_background<'a>(
+fn compare_job<'a>(
     inner: &'a List,
     coprocess: &'a bool,
     right: &'a Command,
@@ -567,19 +571,38 @@ pub fn compare_command<'a>(
             words,
             redirects,
         } => compare_simple(assigns, words, redirects, right, unsettled),
-        Command::Arith { text, redirects } => compare_arith_command(
-            text, redirects, right, unsettled,
-        ),
+        Command::Arith { text, redirects } => compare_numeric(text, redirects, right, unsettled),
         Command::Cond { test, redirects } => compare_cond(test, redirects, right, unsettled),
         Command::Group { body, redirects } => compare_group(body, redirects, right, unsettled),
-        Command::Subshell { body, redirects } => compare_subshell(
-            body, redirects, right, unsettled,
-        ),
+        Command::Subshell { body, redirects } => compare_child(body, redirects, right, unsettled),
         Command::If {
             arms,
             otherwise,
             redirects,
         } => compare_if(arms, otherwise, redirects, right, unsettled),
+        Command::Case {
+            word,
+            items,
+            redirects,
+        } => compare_case(word, items, redirects, right, unsettled),
+        Command::AndOr { first, rest } => compare_and_or(first, rest, right, unsettled),
+        Command::Background { inner, coprocess } => compare_job(inner, coprocess, right, unsettled),
+        Command::Function { definition } => compare_function(definition, right, unsettled),
+        Command::Pipeline { members } => compare_pipeline(members, right, unsettled),
+        Command::Not { inner } => compare_not(inner, right, unsettled),
+        _ => compare_loops(left, right, unsettled),
+    }
+}
+
+/// Looks at a loop on the left; any other form stays unsettled.
+fn compare_loops<'a>(
+    left: &'a Command,
+    right: &'a Command,
+    unsettled: &mut Unsettled<'a>,
+) -> Result<bool, Memory>
+    ensures { IfOk result (λ same. ComesTo (left.now ≡ right.now) unsettled.old same unsettled.new) }
+{
+    match left {
         Command::Loop {
             until,
             test,
@@ -599,23 +622,15 @@ pub fn compare_command<'a>(
             body,
             redirects,
         } => compare_for_arith(first, test, step, body, redirects, right, unsettled),
-        Command::Case {
-            word,
-            items,
-            redirects,
-        } => compare_case(word, items, redirects, right, unsettled),
         Command::Select {
             name,
             words,
             body,
             redirects,
         } => compare_select(name, words, body, redirects, right, unsettled),
-        Command::AndOr { first, rest } => compare_and_or(first, rest, right, unsettled),
-        Command::Background { inner, coprocess } => compare_background(
-            inner, coprocess, right, unsettled,
-        ),
-        Command::Function { definition } => compare_function(definition, right, unsettled),
-        Command::Pipeline { members } => compare_pipeline(members, right, unsettled),
-        Command::Not { inner } => compare_not(inner, right, unsettled),
+        _ => {
+            unsettled.push(Sides::Command(left, right))?;
+            Ok(true)
+        }
     }
 }

@@ -11,8 +11,6 @@ mod equal_exprs;
 mod equal_forms;
 mod equal_redirects;
 mod equal_words;
-#[cfg(test)]
-mod tests;
 mod unsettled;
 
 pub use equal::{assigns_equal, lists_equal, redirects_equal, scripts_equal, words_equal};

@@ -29,38 +29,14 @@ fn operators_equal(left: &RedirectForm, right: &RedirectForm) -> bool
     ensures { IsTrue result ↔ (left.now ≡ right.now) }
 {
     match left {
-        RedirectForm::Read => match right {
-            RedirectForm::Read => true,
-            _ => false,
-        },
-        RedirectForm::Write => match right {
-            RedirectForm::Write => true,
-            _ => false,
-        },
-        RedirectForm::Clobber => match right {
-            RedirectForm::Clobber => true,
-            _ => false,
-        },
-        RedirectForm::Append => match right {
-            RedirectForm::Append => true,
-            _ => false,
-        },
-        RedirectForm::ReadWrite => match right {
-            RedirectForm::ReadWrite => true,
-            _ => false,
-        },
-        RedirectForm::DupInput => match right {
-            RedirectForm::DupInput => true,
-            _ => false,
-        },
-        RedirectForm::DupOutput => match right {
-            RedirectForm::DupOutput => true,
-            _ => false,
-        },
-        RedirectForm::HereString => match right {
-            RedirectForm::HereString => true,
-            _ => false,
-        },
+        RedirectForm::Read => matches!(right, RedirectForm::Read),
+        RedirectForm::Write => matches!(right, RedirectForm::Write),
+        RedirectForm::Clobber => matches!(right, RedirectForm::Clobber),
+        RedirectForm::Append => matches!(right, RedirectForm::Append),
+        RedirectForm::ReadWrite => matches!(right, RedirectForm::ReadWrite),
+        RedirectForm::DupInput => matches!(right, RedirectForm::DupInput),
+        RedirectForm::DupOutput => matches!(right, RedirectForm::DupOutput),
+        RedirectForm::HereString => matches!(right, RedirectForm::HereString),
         RedirectForm::HereDoc { end: left } => match right {
             RedirectForm::HereDoc { end: right } => left == right,
             _ => false,
