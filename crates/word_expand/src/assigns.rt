@@ -22,8 +22,9 @@ pub fn assign(
     ensures budget { state.new.budget ≡ state.old.budget }
 {
     for one in assigns {
-        if let Some(words) = assign_one(alloc, state, one)? {
-            return Ok(Some(words));
+        match assign_one(alloc, state, one)? {
+            None => {}
+            Some(words) => return Ok(Some(words)),
         }
     }
     state.status = 0;
