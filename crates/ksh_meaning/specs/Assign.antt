@@ -1,7 +1,6 @@
 -- Assignments without a command word, from the left; the status is then 0. One that is refused is a fault, and the last.
 use Rattle.std.specs.Prelude.{ℕ, List, [], ◌∷◌, Option, Some, None, Result, Ok, Err}
 use Rattle.ksh_script.specs.declared.tree.Assign.{Assign}
-use Rattle.ksh_script.specs.declared.tree.Item.{Item}
 use Rattle.var_store.specs.Calls.{Change, put_of}
 use Rattle.shell_state.specs.Names.{named}
 use Rattle.shell_state.specs.declared.state.ShellState.{ShellState}
@@ -17,7 +16,7 @@ abbrev pub Assigned : Type 0
 Assigned = ShellState × Option (List ℕ)
 
 -- a refused change leaves all as it was
-abbrev pub changed : List ℕ → ShellState → Change (List Item) → Assigned
+abbrev pub changed : List ℕ → ShellState → Change (List ℕ) → Assigned
 changed name s (Ok vars) = (record s { vars = vars }, None)
 changed name s (Err f) = (s, Some (var_refused_words name f))
 

@@ -3,7 +3,7 @@ use Rattle.std.proofs.Common.{◌≡◌, sym, ap, ℕ, List, [], ◌∷◌, Resu
 use Rattle.var_store.specs.Calls.{put_of}
 use Rattle.shell_state.specs.Names.{Vars, named, holding}
 
-ok_or : {A E : Type 0} → A → Result A E → A
+abbrev ok_or : {A E : Type 0} → A → Result A E → A
 ok_or a (Ok x) = x
 ok_or a (Err e) = a
 

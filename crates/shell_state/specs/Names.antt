@@ -1,19 +1,18 @@
 -- The variables of a shell, by their names.
 use Rattle.std.specs.Prelude.{ℕ, List, []}
-use Rattle.ksh_script.specs.declared.tree.Item.{Item}
 use Rattle.var_types.specs.declared.path.Path.{Path}
 use Rattle.var_types.specs.declared.value.Value.TheVariants.{Plain}
 use Rattle.var_types.specs.declared.cell.Cell.{Cell}
 use Rattle.var_types.specs.Rows.{no_attrs, no_hooks}
 use Rattle.var_store.specs.Calls.{Store}
 
--- rows and the number of the highest scope; a discipline's function is a list of commands
+-- rows and the number of the highest scope; a discipline's function is its text
 abbrev pub Vars : Type 0
-Vars = Store (List Item)
+Vars = Store (List ℕ)
 
 -- what a row has beside its path
 abbrev pub VarCell : Type 0
-VarCell = Cell (List Item)
+VarCell = Cell (List ℕ)
 
 -- the path of a name's row
 abbrev pub named : List ℕ → Path

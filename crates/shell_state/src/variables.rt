@@ -2,8 +2,7 @@ ghost use Rattle.std.specs.Prelude.{◌≡◌, ◌<◌, IfOk};
 ghost use Rattle.var_store.specs.Calls.{Changes, put_of};
 ghost use Rattle.shell_state.specs.Names.{named};
 
-use ksh_base::{Items, Memory, Name};
-use ksh_script::Item;
+use ksh_base::{Items, Memory, Name, Text};
 use std::alloc::Global;
 use std::marker::Brand;
 use std::sync::ledger::{Blank, Ledger};
@@ -11,8 +10,8 @@ use tree_steps::Steps;
 use var_store::{VarFault, VarStore};
 use var_types::Path;
 
-/// The variables of a shell. A discipline's function is a list of commands.
-pub type Vars = VarStore<Items<Item>>;
+/// The variables of a shell. A discipline's function is its text, as long as scripts have no functions.
+pub type Vars = VarStore<Text>;
 
 /// The path of a name's row, which stands in scope 0.
 pub fn named(alloc: Global, name: &Name) -> Result<Path, Memory>

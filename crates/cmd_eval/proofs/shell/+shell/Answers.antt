@@ -227,7 +227,7 @@ pub eval_form-returns-in-Print-clause-means : goal.eval_form-returns-in-Print-cl
 eval_form-returns-in-Print-clause-means g t c = let o : out-Command c.args.command.now ≡ Command-F.Print c.in-Print.words = search (rules, the_lemmas) in rw o (rw c.as_slice.ensures at c.eval_print.ensures.means)
 
 pub eval_form-returns-in-Assign-clause-means : goal.eval_form-returns-in-Assign-clause-means
-eval_form-returns-in-Assign-clause-means g t c = let o : out-Command c.args.command.now ≡ Command-F.Assign c.in-Assign.assigns = search (rules, the_lemmas) in rw o (rw c.as_slice-in-Assign.ensures at c.eval_assign.ensures.means)
+eval_form-returns-in-Assign-clause-means g t c = let o : out-Command c.args.command.now ≡ Command-F.Assign c.in-Assign.assigns = search (rules, the_lemmas) in rw (o, ← c.as_slice-in-Assign.ensures) c.eval_assign.ensures.means
 
 pub eval_form-returns-in-Subshell-clause-means : goal.eval_form-returns-in-Subshell-clause-means
 eval_form-returns-in-Subshell-clause-means g t c = let o : out-Command c.args.command.now ≡ Command-F.Subshell c.in-Subshell.body = search (rules, the_lemmas) in rw o c.eval_subshell.ensures.means
