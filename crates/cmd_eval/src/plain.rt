@@ -2,15 +2,19 @@
 ghost use Rattle.std.specs.Prelude.{◌≡◌, ◌≤◌};
 ghost use Rattle.kernel_ask.specs.declared.ask.Ask.TheVariants.{Asked};
 ghost use Rattle.ksh_meaning.specs.Units.{asked};
-ghost use Rattle.ksh_meaning.specs.Subshell.{tell, not_forked, too_deep};
+ghost use Rattle.ksh_meaning.specs.Faults.{tell, fail};
+ghost use Rattle.ksh_meaning.specs.Assign.{assigned, settled};
+ghost use Rattle.ksh_meaning.specs.Subshell.{not_forked};
 ghost use Rattle.ksh_meaning.specs.Finished.{Means, ended};
 ghost use Rattle.shell_family.specs.Fits.{IsShell, Stays};
 
 use kernel_ask::{Answer, Call, Handle, Port, Refusal};
 use ksh_meaning::{fault_text, refused_text, settle_text, spend};
+use ksh_script::Assign;
 use shell_family::Shell;
 use shell_state::{Flow, ShellState, Start, Stop};
 use shell_thread::{Album, Spawner};
+use word_expand::assign;
 
 // One ask, for one unit.
 pub fn ask<Po: Port<Start>, P: Spawner, A: Album<Po>>(
@@ -88,25 +92,49 @@ pub fn not_forked<Po: Port<Start>, P: Spawner, A: Album<Po>>(
     }
 }
 
-// A form that forks stands at the lowest level.
-pub fn too_deep<Po: Port<Start>, P: Spawner, A: Album<Po>>(
+// A fault has its text, and the shell ends.
+pub fn fail<Po: Port<Start>, P: Spawner, A: Album<Po>>(
     shell: &mut Shell<Po, P, A>,
     state: &mut ShellState,
     line: u32,
+    words: &[u8],
 ) -> Result<Flow, Stop>
     requires { IsShell Po.sees A.list P.faults A.spare state.old.level shell.old }
-    ensures means { Means state.old.budget (Po.sees shell.old.port).done (Po.sees shell.new.port).done (λ n. too_deep line state.old) (ended state.new result) }
+    ensures means { Means state.old.budget (Po.sees shell.old.port).done (Po.sees shell.new.port).done (λ n. fail line words.now state.old) (ended state.new result) }
     ensures shell { IsShell Po.sees A.list P.faults A.spare state.old.level shell.new }
     ensures stays { Stays Po.sees P.faults shell.old shell.new }
     ensures level { state.new.level ≡ state.old.level }
     ensures budget { state.new.budget ≤ state.old.budget }
 {
-    match tell(shell, state, line, b"too deep") {
+    match tell(shell, state, line, words) {
         Ok(Flow::Next) => {
             state.status = 1;
             Ok(Flow::Exit)
         }
         Ok(Flow::Exit) => Ok(Flow::Exit),
         Err(stop) => Err(stop),
+    }
+}
+
+// Assignments without a command word.
+pub fn eval_assign<Po: Port<Start>, P: Spawner, A: Album<Po>>(
+    shell: &mut Shell<Po, P, A>,
+    state: &mut ShellState,
+    line: u32,
+    assigns: &[Assign],
+) -> Result<Flow, Stop>
+    requires { IsShell Po.sees A.list P.faults A.spare state.old.level shell.old }
+    ensures means { Means state.old.budget (Po.sees shell.old.port).done (Po.sees shell.new.port).done (λ n. settled line (assigned assigns.now state.old)) (ended state.new result) }
+    ensures shell { IsShell Po.sees A.list P.faults A.spare state.old.level shell.new }
+    ensures stays { Stays Po.sees P.faults shell.old shell.new }
+    ensures level { state.new.level ≡ state.old.level }
+    ensures budget { state.new.budget ≤ state.old.budget }
+{
+    let Ok(refused) = assign(shell.alloc, state, assigns) else {
+        return Err(Stop::Memory);
+    };
+    match refused {
+        None => Ok(Flow::Next),
+        Some(words) => fail(shell, state, line, words.bytes()),
     }
 }

@@ -13,7 +13,7 @@ ghost use Rattle.shell_family.specs.Fits.{IsShell, Stays, IsPending, IsJoining, 
 ghost use Rattle.shell_family.specs.declared.forked.Awaited.TheVariants.{Joined};
 
 use crate::child::{close, make, note_handed, note_running, note_waited, open};
-use crate::plain::{ask, not_forked, too_deep};
+use crate::plain::{ask, eval_assign, fail, not_forked};
 use built_io::run_io;
 use kernel_ask::Port;
 use ksh_base::Text;
@@ -24,7 +24,7 @@ use shell_state::{Builtin, Flow, ShellState, Start, Stop, Task, Told};
 use shell_thread::{Album, Handled, ShellEnd, Spawner};
 use std::alloc::Global;
 use std::snapshot::Snapshot;
-use word_expand::{assign, words_of};
+use word_expand::words_of;
 
 // Starts a child, and notes what became of it. Whether it was begun.
 #[cycle(shell)]
@@ -252,7 +252,7 @@ fn eval_subshell<Po: Port<Start> + 'static, P: Spawner + 'static, A: Album<Po> +
     ensures budget { state.new.budget ≤ state.old.budget }
 {
     if state.level >= 64 {
-        return too_deep(shell, state, line);
+        return fail(shell, state, line, b"too deep");
     }
     if !spend(state, 2) {
         return Err(Stop::Spent);
@@ -363,10 +363,7 @@ fn eval_form<Po: Port<Start> + 'static, P: Spawner + 'static, A: Album<Po> + 'st
 {
     match command {
         Command::Print { words } => eval_print(shell, state, line, words.as_slice()),
-        Command::Assign { assigns } => match assign(shell.alloc, state, assigns.as_slice()) {
-            Ok(()) => Ok(Flow::Next),
-            Err(_) => Err(Stop::Memory),
-        },
+        Command::Assign { assigns } => eval_assign(shell, state, line, assigns.as_slice()),
         Command::Subshell { body } => eval_subshell(shell, state, line, body),
     }
 }

@@ -6,6 +6,7 @@ pub mod Tasks
 pub mod Output
 pub mod Print
 pub mod Builtins
+pub mod Faults
 pub mod Expand
 pub mod Assign
 pub mod Subshell

@@ -20,8 +20,9 @@ use Rattle.ksh_meaning.specs.Units.{End, ends, units, asked}
 use Rattle.ksh_meaning.specs.Tasks.{Tasks, doing}
 use Rattle.ksh_meaning.specs.Builtins.{builtin}
 use Rattle.ksh_meaning.specs.Expand.{words_of}
-use Rattle.ksh_meaning.specs.Assign.{assigned}
-use Rattle.ksh_meaning.specs.Subshell.{goes_on, subshell}
+use Rattle.ksh_meaning.specs.Faults.{goes_on}
+use Rattle.ksh_meaning.specs.Assign.{assigned, settled}
+use Rattle.ksh_meaning.specs.Subshell.{subshell}
 
 -- what runs inside a form: a command
 abbrev pub Runs : Type 0
@@ -45,7 +46,7 @@ run_builtin runs which line words s = doing (perform runs) (builtin which line w
 
 abbrev pub form : Runs → ℕ → Command-F Command Item → ShellState → Prog End
 form runs line (Command-F.Print words) s = run_builtin runs Print line (words_of s.vars words) s
-form runs line (Command-F.Assign assigns) s = ends (assigned assigns s) Next
+form runs line (Command-F.Assign assigns) s = settled line (assigned assigns s)
 form runs line (Command-F.Subshell body) s = subshell line body s
 
 abbrev pub inside : Runs → Item → ShellState → Prog End

@@ -12,7 +12,7 @@ use Rattle.shell_state.specs.declared.state.Flow.{Flow}
 use Rattle.shell_state.specs.declared.state.Flow.TheVariants.{Next, Exit}
 use Rattle.ksh_script.specs.declared.tree.Item.{Item}
 use Rattle.ksh_meaning.specs.Units.{End, ends}
-use Rattle.ksh_meaning.specs.Subshell.{goes_on}
+use Rattle.ksh_meaning.specs.Faults.{goes_on}
 use Rattle.ksh_meaning.specs.Mean.{work, list_of}
 
 -- whatever q does from y on, p does from x on

@@ -1,7 +1,6 @@
 -- ( list ): the list runs in a shell of its own, which begins with a deep copy of the state, and is waited for.
 use Rattle.std.specs.Prelude.{ℕ, List, [], ◌∷◌, codes, nat_le, if◌then◌else◌}
-use Rattle.kernel_ask.specs.declared.ask.Ask.{Ask}
-use Rattle.kernel_ask.specs.declared.ask.Ask.TheVariants.{Asked, Fork, Begin, WaitShell}
+use Rattle.kernel_ask.specs.declared.ask.Ask.TheVariants.{Fork, Begin, WaitShell}
 use Rattle.kernel_ask.specs.declared.ask.Answer.{Answer}
 use Rattle.kernel_ask.specs.declared.ask.Answer.TheVariants.{Forked, Refused, Begun, ShellEnded}
 use Rattle.kernel_ask.specs.declared.ask.Handle.{Handle}
@@ -11,25 +10,11 @@ use Rattle.ksh_script.specs.declared.tree.Item.{Item}
 use Rattle.shell_state.specs.State.{forked_state}
 use Rattle.shell_state.specs.declared.start.Start.{Start}
 use Rattle.shell_state.specs.declared.state.ShellState.{ShellState}
-use Rattle.shell_state.specs.declared.state.Flow.{Flow}
-use Rattle.shell_state.specs.declared.state.Flow.TheVariants.{Next, Exit}
-use Rattle.ksh_meaning.specs.Prog.{Prog, Done, and_then}
+use Rattle.shell_state.specs.declared.state.Flow.TheVariants.{Next}
+use Rattle.ksh_meaning.specs.Prog.{Prog, and_then}
 use Rattle.ksh_meaning.specs.Units.{End, ends, with_status, units, put, asked}
-use Rattle.ksh_meaning.specs.Answers.{write_refused}
-use Rattle.ksh_meaning.specs.Texts.{fault_line, refused_words}
-use Rattle.ksh_meaning.specs.Output.{write, text_left}
-
--- after one part the next one follows, unless the flow leaves
-abbrev pub goes_on : (ShellState → Prog End) → End → Prog End
-goes_on rest (s, Next) = rest s
-goes_on rest (s, Exit) = ends s Exit
-
-abbrev pub told : ShellState × Answer → Prog End
-told (s, a) = Done (text_left (write_refused a) s)
-
--- a text on descriptor 2
-unfoldable pub tell : ℕ → List ℕ → ShellState → Prog End
-tell line words s = and_then (asked (Asked (write 2 (fault_line line words))) s) told
+use Rattle.ksh_meaning.specs.Texts.{refused_words}
+use Rattle.ksh_meaning.specs.Faults.{goes_on, tell, fail}
 
 -- what a forked shell begins with
 abbrev pub copy_of : List Item → ShellState → Start
@@ -67,10 +52,6 @@ forked line (s, _) = not_forked line Io s
 unfoldable pub fork : ℕ → List Item → ShellState → Prog End
 fork line list s = and_then (put (Fork (copy_of list s) standard) s) (forked line)
 
--- at level 64 no shell is forked: the text, status 1, and the shell ends
-unfoldable pub too_deep : ℕ → ShellState → Prog End
-too_deep line s = and_then (tell line (codes "too deep") s) (goes_on (λ s. ends (with_status s 1) Exit))
-
--- the units of the Fork and of its Begin are spent together before the Fork, so that the copy has what is left
+-- at level 64 no shell is forked, which is a fault
 unfoldable pub subshell : ℕ → List Item → ShellState → Prog End
-subshell line list s = if nat_le 64 s.level then too_deep line s else and_then (units 2 s) (fork line list)
+subshell line list s = if nat_le 64 s.level then fail line (codes "too deep") s else and_then (units 2 s) (fork line list)

@@ -2,6 +2,8 @@
 use Rattle.std.specs.Prelude.{ℕ, List, [], ◌∷◌, ◌++◌, codes, decimal}
 use Rattle.kernel_ask.specs.declared.ask.Refusal.{Refusal}
 use Rattle.kernel_ask.specs.declared.ask.Refusal.TheVariants.{NoEntry, NotDir, IsDir, Exists, Denied, BadHandle, Broken, Io, TooMany}
+use Rattle.var_store.specs.declared.faults.VarFault.{VarFault}
+use Rattle.var_store.specs.declared.faults.VarFault.TheVariants.{NoParent, ReadOnly, NotArray, SubscriptRange, NotAName, WrongKind, Memory}
 
 abbrev pub newline : List ℕ
 newline = 10 ∷ []
@@ -25,3 +27,17 @@ fault_line line words = codes "kshtree: line " ++ decimal line ++ codes ": " ++ 
 -- that an ask of this name was refused
 abbrev pub refused_words : List ℕ → Refusal → List ℕ
 refused_words name r = name ++ codes ": " ++ refusal_words r
+
+-- the words of a fault of a variable; no change means Memory, for want of which a shell stops
+abbrev pub var_fault_words : VarFault → List ℕ
+var_fault_words NoParent = codes "no parent"
+var_fault_words ReadOnly = codes "is read only"
+var_fault_words NotArray = codes "not an array"
+var_fault_words SubscriptRange = codes "subscript out of range"
+var_fault_words NotAName = codes "not a name"
+var_fault_words WrongKind = codes "wrong kind"
+var_fault_words Memory = codes "out of memory"
+
+-- that a change of this variable was refused
+abbrev pub var_refused_words : List ℕ → VarFault → List ℕ
+var_refused_words name f = name ++ codes ": " ++ var_fault_words f

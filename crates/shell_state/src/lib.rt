@@ -4,7 +4,9 @@
 mod start;
 mod state;
 mod task;
+mod variables;
 
 pub use start::Start;
 pub use state::{Flow, ShellState, Stop};
 pub use task::{Builtin, Task, Told};
+pub use variables::{Vars, named, put_text};

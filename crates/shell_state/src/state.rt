@@ -1,9 +1,10 @@
 ghost use Rattle.std.specs.Prelude.{◌≡◌, ◌<◌, ◌^◌, IfOk};
 ghost use Rattle.shell_state.specs.State.{root_state, forked_state};
 
-use ksh_base::{Budget, Memory, Name, Text};
+use crate::variables::{Vars, named, put_text};
+use ksh_base::{Budget, Memory, Name};
 use std::alloc::Global;
-use var_rows::Vars;
+use var_store::VarStore;
 
 /// The state of a shell: all that its commands read and change, but for the world.
 #[derive(Drop)]
@@ -40,9 +41,12 @@ impl ShellState {
     pub fn root(alloc: Global, budget: u64) -> Result<ShellState, Memory>
         ensures { IfOk result (λ s. s ≡ root_state budget) }
     {
-        let mut vars = Vars::new(alloc);
+        let mut vars = VarStore::new(alloc)?;
         let name = Name::read(alloc, b"OPTIND").map_err(|_| Memory)?;
-        vars.put(name, Text::of(alloc, b"1")?)?;
+        let path = named(alloc, &name)?;
+        let Ok(()) = put_text(&mut vars, &path, b"1") else {
+            return Err(Memory);
+        };
         Ok(ShellState {
             vars,
             status: 0,
@@ -55,7 +59,7 @@ impl ShellState {
     pub fn copy(&self) -> Result<ShellState, Memory>
         ensures { IfOk result (λ s. s ≡ self.now) }
     {
-        let vars = self.vars.copy()?;
+        let vars = self.vars.fork()?;
         Ok(ShellState {
             vars,
             status: self.status,

@@ -6,3 +6,6 @@ mod words;
 
 pub use assigns::assign;
 pub use words::{word_text, words_of};
+
+#[cfg(test)]
+mod tests;

@@ -1,7 +1,8 @@
 use Rattle.std.proofs.Common.{rules, ◌≡◌, ap, Ok, Err, codes}
 use Rattle.shell_state.specs.declared.state.Flow.TheVariants.{Next}
 use Rattle.ksh_meaning.specs.Laws.{means_then, means_stop, means_done, means_no_memory}
-use Rattle.ksh_meaning.specs.Subshell.{tell, goes_on, not_forked}
+use Rattle.ksh_meaning.specs.Faults.{tell, goes_on}
+use Rattle.ksh_meaning.specs.Subshell.{not_forked}
 use Rattle.ksh_meaning.specs.Texts.{refused_words}
 use Rattle.ksh_meaning.specs.Units.{ends, with_status}
 use Rattle.cmd_eval.proofs.plain.not_forked.Goals as goal

@@ -2,7 +2,7 @@ use Rattle.std.proofs.Common.{rules, ◌≡◌, ap, Ok, Err}
 use Rattle.kernel_ask.specs.declared.ask.Ask.TheVariants.{Asked}
 use Rattle.ksh_meaning.specs.Laws.{means_then, means_stop, means_done, means_no_memory}
 use Rattle.ksh_meaning.specs.Output.{write}
-use Rattle.ksh_meaning.specs.Subshell.{tell, told}
+use Rattle.ksh_meaning.specs.Faults.{tell, told}
 use Rattle.ksh_meaning.specs.Texts.{fault_line}
 use Rattle.ksh_meaning.specs.Units.{asked}
 use Rattle.cmd_eval.proofs.plain.tell.Goals as goal

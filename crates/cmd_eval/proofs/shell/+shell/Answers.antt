@@ -17,7 +17,8 @@ use Rattle.ksh_meaning.specs.Mean.{list_of, work, run_builtin, perform}
 use Rattle.ksh_meaning.specs.Prog.{Done}
 use Rattle.ksh_meaning.specs.Remains.{remains_on, remains_stop, list_step, list_left, list_end}
 use Rattle.ksh_meaning.specs.Service.{reached_keeps, served_keeps, reached_has, served_has, served_rest, served_means}
-use Rattle.ksh_meaning.specs.Subshell.{goes_on, subshell, fork, begin, wait, forked, begun, waited, copy_of, standard}
+use Rattle.ksh_meaning.specs.Faults.{goes_on}
+use Rattle.ksh_meaning.specs.Subshell.{subshell, fork, begin, wait, forked, begun, waited, copy_of, standard}
 use Rattle.ksh_meaning.specs.Units.{asked, put}
 use Rattle.shell_family.specs.Fits.{IsShell, Stays}
 use Rattle.shell_family.proofs.Shells.{last_at, stays_join, stays_quiet, runs_shell, taken, keep_room, pending_again, rose_some, turned_next, settled_joined, settled_running, can_join}
@@ -225,18 +226,15 @@ wait_last-returns-clause-means g t c =
 pub eval_form-returns-in-Print-clause-means : goal.eval_form-returns-in-Print-clause-means
 eval_form-returns-in-Print-clause-means g t c = let o : out-Command c.args.command.now ≡ Command-F.Print c.in-Print.words = search (rules, the_lemmas) in rw o (rw c.as_slice.ensures at c.eval_print.ensures.means)
 
-pub eval_form-returns-in-Ok-clause-means : goal.eval_form-returns-in-Ok-clause-means
-eval_form-returns-in-Ok-clause-means g t c = let o : out-Command c.args.command.now ≡ Command-F.Assign c.in-Assign.assigns = search (rules, the_lemmas) in rw (o, c.in-Ok.ensures.done, c.as_slice-in-Assign.ensures) (means_done _ _ _)
-
-pub eval_form-returns-in-Err-clause-means : goal.eval_form-returns-in-Err-clause-means
-eval_form-returns-in-Err-clause-means g t c = means_no_memory _ _ _
+pub eval_form-returns-in-Assign-clause-means : goal.eval_form-returns-in-Assign-clause-means
+eval_form-returns-in-Assign-clause-means g t c = let o : out-Command c.args.command.now ≡ Command-F.Assign c.in-Assign.assigns = search (rules, the_lemmas) in rw (o, ← c.as_slice-in-Assign.ensures) c.eval_assign.ensures.means
 
 pub eval_form-returns-in-Subshell-clause-means : goal.eval_form-returns-in-Subshell-clause-means
 eval_form-returns-in-Subshell-clause-means g t c = let o : out-Command c.args.command.now ≡ Command-F.Subshell c.in-Subshell.body = search (rules, the_lemmas) in rw o c.eval_subshell.ensures.means
 
 pub eval_subshell-returns-then-state-ge64-clause-means : goal.eval_subshell-returns-then-state-ge64-clause-means
 unfolding subshell
-eval_subshell-returns-then-state-ge64-clause-means g t c = let e : nat_le 64 c.args.state.now.level ≡ true = search rules in rw e c.too_deep.ensures.means
+eval_subshell-returns-then-state-ge64-clause-means g t c = let e : nat_le 64 c.args.state.now.level ≡ true = search rules in rw e c.fail.ensures.means
 
 pub eval_subshell-returns-then-not-spend-clause-means : goal.eval_subshell-returns-then-not-spend-clause-means
 unfolding subshell

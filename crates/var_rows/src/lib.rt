@@ -1,6 +1,0 @@
-//! The variables of a shell.
-#![tactic(auto)]
-
-mod vars;
-
-pub use vars::Vars;
