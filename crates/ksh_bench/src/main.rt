@@ -6,6 +6,7 @@ mod kernel;
 mod lexing;
 mod pattern;
 mod scanning;
+mod store;
 
 use ksh_base::{FileSource, Text, read_script};
 use std::env;
@@ -23,6 +24,7 @@ fn main(rt: HostRuntime) -> anyhow::Result<ExitCode> {
     match part.as_str() {
         "arith" => arith::run(&rt)?,
         "kernel" => kernel::run(&rt)?,
+        "store" => store::run(&rt)?,
         _ => {
             let Some(file) = words.next() else {
                 return Ok(ExitCode::from(2));

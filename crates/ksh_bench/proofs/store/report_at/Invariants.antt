@@ -1,0 +1,5 @@
+use Rattle.ksh_bench.proofs.store.report_at.Given as goal
+
+-- the ledger of the blank
+abbrev pub ghosts-report : goal.ghosts-report
+ghosts-report g a = record { name = a.blank.name; parts = a.blank.parts }
