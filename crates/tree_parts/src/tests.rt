@@ -1,5 +1,5 @@
 use super::*;
-use ksh_ast::{AssignValue, Member, ParamOf, Piece, Test, Word};
+use ksh_ast::{Assign, AssignValue, Member, ParamOf, Piece, Test, Word};
 use ksh_base::{Items, Memory};
 use ksh_lexer::TokenKind;
 use ksh_syntax::{Kind, Mode};
@@ -21,6 +21,14 @@ fn sign(mode: Mode, token: TokenKind) -> Sign {
 fn is_literal(word: &Word, at: usize, bytes: &[u8], quotes: bool) -> bool {
     match word.get(at) {
         Some(Piece::Literal { text, quoted }) => text.bytes() == bytes && *quoted == quotes,
+        _ => false,
+    }
+}
+
+// Whether a value is a word of that literal, unquoted.
+fn is_word(value: &AssignValue, bytes: &[u8]) -> bool {
+    match value {
+        AssignValue::Word(word) => word.len() == 1 && is_literal(word, 0, bytes, false),
         _ => false,
     }
 }
@@ -58,15 +66,14 @@ fn words_are_assignments(rt: HostRuntime) -> Result<(), Fail> {
     let Some(assign) = assignment_of(alloc, word)? else {
         return Err(Fail::from(Memory));
     };
-    assert!(rt; assign.append && assign.path.name.text().bytes() == b".sh".as_slice());
-    assert!(rt; assign.path.parts.len() == 2);
-    match assign.value {
-        AssignValue::Word(value) => assert!(rt;
-            value.len() == 1 && is_literal(&value, 0, b"c", false)
-        ),
-        _ => return Err(Fail::from(Memory)),
-    }
-    let path = path_word(alloc, assign.path)?;
+    let Assign {
+        path,
+        append,
+        value,
+    } = assign;
+    assert!(rt; append && path.name.text().bytes() == b".sh".as_slice());
+    assert!(rt; path.parts.len() == 2 && is_word(&value, b"c"));
+    let path = path_word(alloc, path)?;
     assert!(rt; path.len() == 1 && is_literal(&path, 0, b".sh.a.b", false));
     let refused: [&[u8]; 4] = [b"a.=b", b"1=2", b"a+", b""];
     for bytes in refused {
