@@ -365,6 +365,7 @@ fn eval_form<Po: Port<Start> + 'static, P: Spawner + 'static, A: Album<Po> + 'st
         Command::Print { words } => eval_print(shell, state, line, words.as_slice()),
         Command::Assign { assigns } => eval_assign(shell, state, line, assigns.as_slice()),
         Command::Subshell { body } => eval_subshell(shell, state, line, body),
+        Command::NotBuilt => fail(shell, state, line, b"not built"),
     }
 }
 

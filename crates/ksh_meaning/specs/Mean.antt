@@ -1,5 +1,5 @@
 -- What a list means: fuel bounds how deep commands stand in one another, and each nesting spends a unit.
-use Rattle.std.specs.Prelude.{ℕ, zero, suc, List, [], ◌∷◌}
+use Rattle.std.specs.Prelude.{ℕ, zero, suc, List, [], ◌∷◌, codes}
 use Rattle.kernel_ask.specs.declared.ask.Ask.TheVariants.{Asked}
 use Rattle.kernel_ask.specs.declared.ask.Answer.{Answer}
 use Rattle.ksh_script.specs.declared.tree.Item.{Item, out-Item}
@@ -20,7 +20,7 @@ use Rattle.ksh_meaning.specs.Units.{End, ends, units, asked}
 use Rattle.ksh_meaning.specs.Tasks.{Tasks, doing}
 use Rattle.ksh_meaning.specs.Builtins.{builtin}
 use Rattle.ksh_meaning.specs.Expand.{words_of}
-use Rattle.ksh_meaning.specs.Faults.{goes_on}
+use Rattle.ksh_meaning.specs.Faults.{goes_on, fail}
 use Rattle.ksh_meaning.specs.Assign.{assigned, settled}
 use Rattle.ksh_meaning.specs.Subshell.{subshell}
 
@@ -48,6 +48,7 @@ abbrev pub form : Runs → ℕ → Command-F Command Item → ShellState → Pro
 form runs line (Command-F.Print words) s = run_builtin runs Print line (words_of s.vars words) s
 form runs line (Command-F.Assign assigns) s = settled line (assigned assigns s)
 form runs line (Command-F.Subshell body) s = subshell line body s
+form runs line Command-F.NotBuilt s = fail line (codes "not built") s
 
 abbrev pub inside : Runs → Item → ShellState → Prog End
 inside runs x s = form runs (out-Item x).line (out-Command (out-Item x).command) s

@@ -151,6 +151,7 @@ mod tests {
                 show_list(out, body.get().as_slice())?;
                 out.push(b')')?;
             }
+            Command::NotBuilt => out.push(b'?')?,
         }
         Ok(())
     }

@@ -1,5 +1,5 @@
 -- What becomes of the state by a token that was read.
-use Rattle.std.specs.Prelude.{ℕ, suc, ◌+◌, Bool, true, false, not, ◌==◌, List, [], ◌∷◌, ◌++◌, take, Option, Some, None, option_map, if◌then◌else◌}
+use Rattle.std.specs.Prelude.{ℕ, suc, ◌+◌, Bool, true, false, not, ◌==◌, List, [], ◌∷◌, ◌++◌, take, Option, Some, None, option_map, is_some, if◌then◌else◌}
 use Rattle.ksh_lexer.specs.declared.here.Body.{Body}
 use Rattle.ksh_lexer.specs.declared.here.HereDocument.{HereDocument}
 use Rattle.ksh_lexer.specs.declared.kind.Token.{Token}
@@ -43,6 +43,10 @@ abbrev pub word_by : TokenKind → List ℕ → Token → Option HereOperator �
 word_by token.Bare text t (Some operator) last = Some (operator, slice text t.from t.to)
 word_by token.WordEnd text t here (Some o) = option_map (λ operator. (operator, slice text o.byte t.from)) (operator_within o.opened)
 word_by _ text t here last = None
+
+-- the token ends the word of a here-document
+abbrev pub ends_here_word : State → Seen → Bool
+ends_here_word s n = is_some (word_by n.token.kind (text_of s) n.token s.here (innermost s.source.openings))
 
 abbrev pub document : HereOperator × List ℕ → HereDocument
 document w = record { operator = w.0.byte; word = end_word w.1; tabs = w.0.tabs; expands = not (is_quoted w.1) }

@@ -10,7 +10,7 @@ use Rattle.ksh_syntax.specs.declared.kind.Kind.{Kind}
 use Rattle.ksh_syntax.specs.declared.kind.Kind.TheVariants as kind
 use Rattle.ksh_syntax.specs.declared.kind.Mode.{Mode}
 use Rattle.ksh_syntax.specs.declared.part.Mark.{Mark}
-use Rattle.ksh_syntax.specs.Sentences.{Decides, Event, IsLive, IsLiveWithin, IsScript, Marked, MayCome, Token, Took}
+use Rattle.ksh_syntax.specs.Sentences.{Decides, Event, IsLive, IsLiveWithin, IsScript, Marked, MayCome, Tells, Token, Took, script, within_limit}
 use Rattle.ksh_scan.specs.declared.opening.Opened.{Opened}
 use Rattle.ksh_scan.specs.declared.opening.Opened.TheVariants.{Substitution, Backquote}
 use Rattle.ksh_scan.specs.declared.opening.Opening.{Opening}
@@ -40,9 +40,23 @@ pub data Spelled (text : List ℕ) : State → List Token → List Event → Typ
   one_more : (m : Mode) (n : Seen) (marks : List Mark) (s s' : State) (front : List Token) (events : List Event) → Spelled text s front events → Sees s m (Ok n) s'
       → bad_arithmetic s' m n ≡ None → Spelled text (after s' n marks) (front ++ (m, n.kind) ∷ []) ((events ++ map Marked marks) ++ Took (m, n.kind) ∷ [])
 
+-- these tokens are a script with no more than 64 openings inside one another
+abbrev pub IsShallow : List Token → List Event → Type 0
+IsShallow ts events = Tells within_limit script ts [] events
+
 -- the text is a script
 abbrev pub IsText : List ℕ → Type 0
-IsText text = (length text ≤ longest_text) × (s : State) × (front : List Token) × (events : List Event) × Spelled text s front events × IsScript front events
+IsText text =
+    (length text ≤ longest_text) × (s : State) × (front : List Token) × (events : List Event) × Spelled text s front events × IsScript front events × IsShallow front events
+
+abbrev pub ends_text : Kind → Bool
+ends_text kind.End = true
+ends_text _ = false
+
+-- none of these tokens is the end of the text
+abbrev pub IsOpen : List Token → Type 0
+IsOpen [] = Unit {0}
+IsOpen (t ∷ ts) = (ends_text t.1 ≡ false) × IsOpen ts
 
 -- no script goes on with a token of another mode
 abbrev pub IsOnly : List Token → Mode → Type 0
@@ -144,11 +158,12 @@ pub data IsFaultBehind (front : List Token) (s : State) (f : SyntaxFault) : Type
   of_text : (m : Mode) (s' : State) → IsOnly front m → Sees s m (Err f) s' → IsFaultBehind front s f
   of_token : (m : Mode) (n : Seen) (s' : State) → IsOnly front m → Sees s m (Ok n) s' → IsUnread front s' m n f → IsFaultBehind front s f
 
--- The first fault of a text: it is too long, or what was read before the fault can be completed, and what comes then can't, or
--- ends an arithmetic text that is no expression.
+-- The first fault of a text: it is too long, or the text goes on, what was read before the fault can be completed, and what comes
+-- then can't, or ends an arithmetic text that is no expression.
 pub data HasFault (text : List ℕ) (f : SyntaxFault) : Type 0 where
   long : longest_text < length text → f ≡ too_long text → HasFault text f
-  first : (s : State) (front : List Token) (events : List Event) → length text ≤ longest_text → Spelled text s front events → IsLive front → IsFaultBehind front s f → HasFault text f
+  first : (s : State) (front : List Token) (events : List Event) → length text ≤ longest_text → Spelled text s front events → IsOpen front → IsLive front
+      → IsFaultBehind front s f → HasFault text f
 
 abbrev pub IsRefused : List ℕ → SyntaxRefused → Type 0
 IsRefused text (Fault f) = HasFault text f

@@ -1,7 +1,7 @@
 //! What becomes of the state by a token that was read.
 ghost use Rattle.std.specs.Prelude.{◌≡◌, ◌≤◌, Some, None, OnOk, MatchOption, length};
 ghost use Rattle.ksh_lexer.specs.Place.{longest_text};
-ghost use Rattle.ksh_scan.specs.After.{after, awaiting, before_less, body_source, command_word, entered, operator_of, operator_within, source_after, tells_command_word, word_by};
+ghost use Rattle.ksh_scan.specs.After.{after, awaiting, before_less, body_source, command_word, ends_here_word, entered, operator_of, operator_within, source_after, tells_command_word, word_by};
 ghost use Rattle.ksh_scan.specs.Openings.{innermost};
 ghost use Rattle.ksh_scan.specs.Seeing.{slice, text_of, IsWithin};
 
@@ -10,12 +10,22 @@ use crate::see::Seen;
 use crate::state::{Source, State};
 use ksh_base::{Items, Memory};
 use ksh_lexer::{Body, HereDocument, Redirection, Token, TokenKind, end_word, is_quoted};
-use ksh_syntax::Mark;
+use ksh_syntax::{Mark, Mode};
 use std::alloc::Global;
 use std::mem::replace;
 
+/// A token that was read.
+#[derive(Clone, Copy, Debug, PartialEq, Eq)]
+pub struct ReadToken {
+    /// What it stands in.
+    pub mode: Mode,
+    pub seen: Seen,
+    /// Whether it ends the word of a here-document, whose body stands behind a later newline.
+    pub ends_here_word: bool,
+}
+
 /// The bytes of a text from one place to another, as far as there are any.
-pub(crate) fn slice(text: &[u8], from: usize, to: usize) -> &[u8]
+pub fn slice(text: &[u8], from: usize, to: usize) -> &[u8]
     ensures { result.now ≡ slice text.now from to }
 {
     let behind = &text[from.min(text.len())..];
@@ -143,6 +153,18 @@ impl<'a> Source<'a> {
 }
 
 impl<'a> State<'a> {
+    /// Whether a token that was seen ends the word of a here-document.
+    pub(crate) fn ends_here_word(&self, seen: Seen) -> bool
+        ensures { result ≡ ends_here_word self.now seen }
+    {
+        let last = innermost(self.source.openings.as_slice());
+        let text = self.source.lexer.text();
+        match word_by(text, seen.token, self.here, last) {
+            Some(_) => true,
+            None => false,
+        }
+    }
+
     /// Goes behind a token that was seen and read.
     pub(crate) fn read(&mut self, alloc: Global, seen: Seen, marks: &[Mark]) -> Result<(), Memory>
         requires token { (seen.token.from ≤ seen.token.to) × (seen.token.to ≤ longest_text) }

@@ -13,6 +13,7 @@ mod state;
 #[cfg(test)]
 mod tests;
 
+pub use after::{ReadToken, slice};
 pub use check::check_text;
 pub use opening::{HereOperator, Opened, Opening};
 pub use refusal::SyntaxRefused;

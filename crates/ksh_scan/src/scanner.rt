@@ -1,13 +1,14 @@
 //! The reader of a script's tokens.
-ghost use Rattle.std.specs.Prelude.{◌≡◌, ◌≤◌, ℕ, true, [], List, length, IfOk, IfErr, OnOk};
+ghost use Rattle.std.specs.Prelude.{◌≡◌, ◌↔◌, ◌≤◌, ℕ, true, [], List, length, IfOk, IfErr, OnOk};
 ghost use Rattle.ksh_lexer.specs.Place.{fault_at, longest_text};
 ghost use Rattle.ksh_syntax.specs.Sentences.{Event, HasRead, IsScript, Token};
-ghost use Rattle.ksh_scan.specs.Scan.{start, IsRefused, IsToldBy};
+ghost use Rattle.ksh_scan.specs.Scan.{ends_text, start, IsRefused, IsToldBy};
 ghost use Rattle.ksh_scan.specs.Steps.{IsAt, StepsOn, TakesOn};
 ghost use Rattle.ksh_scan.specs.Seeing.{text_of, IsWithin};
 ghost use Rattle.ksh_scan.specs.declared.refusal.SyntaxRefused.TheVariants.{Fault};
 ghost use Rattle.ksh_scan.specs.declared.refusal.Unread.TheVariants.{Word};
 
+use crate::after::ReadToken;
 use crate::opening::innermost;
 use crate::refusal::{SyntaxRefused, Unread, end_fault, open_fault, unread_by, word_fault};
 use crate::see::Seen;
@@ -16,6 +17,13 @@ use ksh_base::{Items, Memory};
 use ksh_lexer::{Lexer, SyntaxKind};
 use ksh_syntax::{Kind, Mark, Mode, Next, Reading};
 use std::alloc::Global;
+
+/// Whether a token is the end of the text.
+fn ends_text(kind: Kind) -> bool
+    ensures { result ≡ ends_text kind }
+{
+    matches!(kind, Kind::End)
+}
 
 /// Reads a script's tokens one after another, up to its first fault.
 #[derive(Drop)]
@@ -59,7 +67,8 @@ impl<'a> Scanner<'a> {
 
     /// Whether the whole script was read.
     pub fn is_finished(&self) -> bool
-        ensures { (front : List Token) (events : List Event) → HasRead front self.now.reading.left.items events → result ≡ true → IsScript front events }
+        ensures empty { result ≡ true ↔ (self.now.reading.left.items ≡ []) }
+        ensures script { (front : List Token) (events : List Event) → HasRead front self.now.reading.left.items events → result ≡ true → IsScript front events }
     {
         self.reading.is_finished()
     }
@@ -71,9 +80,9 @@ impl<'a> Scanner<'a> {
         self.marks.as_slice()
     }
 
-    /// Reads the next token, or gives the fault where no script goes on with what comes. After an error nothing more can be
-    /// read.
-    pub fn step(&mut self, alloc: Global) -> Result<Seen, SyntaxRefused>
+    /// Reads the next token and tells it, or gives the fault where no script goes on with what comes. After an error nothing more
+    /// can be read.
+    pub fn step(&mut self, alloc: Global) -> Result<ReadToken, SyntaxRefused>
         ensures { (text : List ℕ) (front : List Token) (events : List Event) → IsAt text front events self.old.reading.left.items self.old.state
             → StepsOn text front events self.old.state self.new.reading.left.items self.new.state self.new.marks.items result }
     {
@@ -84,8 +93,9 @@ impl<'a> Scanner<'a> {
         }
     }
 
-    /// Reads a token that was seen, or gives its fault.
-    fn take(&mut self, alloc: Global, mode: Mode, seen: Seen) -> Result<Seen, SyntaxRefused>
+    /// Reads a token that was seen, or gives its fault. Nothing is left behind the end of a script, which no grammar's law says: it is
+    /// looked at here.
+    fn take(&mut self, alloc: Global, mode: Mode, seen: Seen) -> Result<ReadToken, SyntaxRefused>
         requires token { (seen.token.from ≤ seen.token.to) × (seen.token.to ≤ longest_text) }
         requires body { IsWithin (text_of self.old.state) seen.body }
         ensures { (front : List Token) (events : List Event) → HasRead front self.old.reading.left.items events
@@ -100,8 +110,16 @@ impl<'a> Scanner<'a> {
                 if let Some((kind, byte)) = bad {
                     return Err(self.fault(kind, byte));
                 }
+                if ends_text(seen.kind) && !self.reading.is_finished() {
+                    return Err(SyntaxRefused::Memory);
+                }
+                let ends_here_word = self.state.ends_here_word(seen);
                 self.state.read(alloc, seen, self.marks.as_slice())?;
-                Ok(seen)
+                Ok(ReadToken {
+                    mode,
+                    seen,
+                    ends_here_word,
+                })
             }
             Next::TooDeep => Err(self.fault(SyntaxKind::TooDeep, seen.token.from as u32)),
             Next::Refused => {

@@ -21,6 +21,8 @@ pub enum Command {
     Assign { assigns: Items<Assign> },
     /// Runs its list in a shell of its own, and waits for it.
     Subshell { body: Shared<Items<Item>> },
+    /// A form that isn't built yet. It is a fault, which ends its shell.
+    NotBuilt,
 }
 
 /// `name=value`.

@@ -232,6 +232,9 @@ eval_form-returns-in-Assign-clause-means g t c = let o : out-Command c.args.comm
 pub eval_form-returns-in-Subshell-clause-means : goal.eval_form-returns-in-Subshell-clause-means
 eval_form-returns-in-Subshell-clause-means g t c = let o : out-Command c.args.command.now ≡ Command-F.Subshell c.in-Subshell.body = search (rules, the_lemmas) in rw o c.eval_subshell.ensures.means
 
+pub eval_form-returns-in-NotBuilt-clause-means : goal.eval_form-returns-in-NotBuilt-clause-means
+eval_form-returns-in-NotBuilt-clause-means g t c = let o : out-Command c.args.command.now ≡ Command-F.NotBuilt = search (rules, the_lemmas) in rw o c.fail.ensures.means
+
 pub eval_subshell-returns-then-state-ge64-clause-means : goal.eval_subshell-returns-then-state-ge64-clause-means
 unfolding subshell
 eval_subshell-returns-then-state-ge64-clause-means g t c = let e : nat_le 64 c.args.state.now.level ≡ true = search rules in rw e c.fail.ensures.means

@@ -9,8 +9,8 @@ returns-in-Some c front events h =
 
 pub returns-in_ok-read-in-Taken : goal.returns-in_ok-read-in-Taken
 returns-in_ok-read-in-Taken c front events h =
-    takes_taken front events c.args.mode c.args.seen c.args.self.now.state c.read.new.self c.args.self.now.reading.left.items c.take.new.self.left.items [] c.take.new.marks.items
-    (search rules) h (search rules) (search rules) (search rules)
+    takes_taken front events c.args.mode c.args.seen c.ends_here_word-ends_here_word.result c.args.self.now.state c.read.new.self c.args.self.now.reading.left.items c.take.new.self.left.items [] c.take.new.marks.items
+    (search rules) h (search rules) (search rules) (search rules) (search rules) (search rules)
 
 pub returns-in-TooDeep : goal.returns-in-TooDeep
 returns-in-TooDeep c front events h =

@@ -1,0 +1,10 @@
+pub mod Below
+pub mod Checks
+pub mod Cuts
+pub mod Effects
+pub mod Follows
+pub mod Leads
+pub mod Numbers
+pub mod Rows
+pub mod Sound
+pub mod Theorem

@@ -1,0 +1,4 @@
+pub mod Moves
+pub mod Tags
+pub mod Texts
+pub mod Turns
