@@ -1,7 +1,7 @@
 use Rattle.std.proofs.Common.{rules, ap, ◌∙◌}
 use Rattle.ksh_lexer.specs.Awaited.{Lexing}
 use Rattle.script_notes.specs.Noted.{line_of}
-use Rattle.script_notes.proofs.Keeping.{keeps_fault, keeps_on, keeps_start, keeps_text}
+use Rattle.script_notes.proofs.Keeping.{keeps_fault, keeps_on, keeps_script, keeps_start, keeps_text}
 use Rattle.script_notes.proofs.script.note_script.Goals as goal
 
 pub loop-init : goal.loop-init
@@ -13,6 +13,11 @@ loop-init c = (
 pub returns-then-is_finished-clause-fine : goal.returns-then-is_finished-clause-fine
 returns-then-is_finished-clause-fine c =
     keeps_text c.args.text.now c.loop.scanner.reading.left.items c.loop.scanner.state c.loop.noting c.loop.invariant.0 (λ front events h. c.is_finished.ensures.script front events h (search rules)) (search rules)
+
+pub returns-then-is_finished-clause-noted : goal.returns-then-is_finished-clause-noted
+returns-then-is_finished-clause-noted c =
+    keeps_script c.args.text.now c.loop.scanner.reading.left.items c.loop.scanner.state c.loop.noting c.finish.result c.loop.invariant.0
+    (λ front events h. c.is_finished.ensures.script front events h (search rules)) (search rules) (search rules)
 
 pub returns-in-Err-clause-refused : goal.returns-in-Err-clause-refused
 returns-in-Err-clause-refused c =
