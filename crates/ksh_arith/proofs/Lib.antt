@@ -3,3 +3,4 @@ pub mod Serving
 pub mod Forms
 pub mod Scanning
 pub mod Levels
+pub mod Operators

@@ -7,8 +7,8 @@ use crate::fault::ArithRefused;
 use crate::part::Part;
 use crate::path::read_path;
 use crate::scan::{
-    assigning, begins, begins_digit, begins_name, begins_two, behind, common_bytes, literal,
-    operator_at, signing, skip, stepping,
+    assigning, begins, begins_digit, begins_name, begins_two, behind, common_bytes, level_at,
+    literal, operator_at, signing, skip, stepping,
 };
 use arith_tree::{ArithExpr, ArithLink, ArithPath, StepWay};
 use ksh_base::{Boxed, Items, Memory};
@@ -75,7 +75,8 @@ fn dead_operator(text: &[u8]) -> ArithRefused
     ArithRefused::Bad(behind(text, common_bytes(text)).len())
 }
 
-/// A level of the grammar at the front of the text, where so many levels of the tree may stand.
+/// A level of the grammar at the front of the text, where so many levels of the tree may stand: an operand, and what the
+/// levels up to that one add behind it, the tightest first. Those whose operators don't stand there are passed over at once.
 #[cycle(read)]
 fn read(alloc: Global, levels: u32, level: u32, text: &[u8]) -> Result<(Part, &[u8]), ArithRefused>
     requires few { levels ≤ 256 }
@@ -86,13 +87,27 @@ fn read(alloc: Global, levels: u32, level: u32, text: &[u8]) -> Result<(Part, &[
     if levels == 0 {
         return Err(ArithRefused::TooDeep(text.len()));
     }
-    if level == 0 {
-        return read_signed(alloc, levels, skip(text));
+    let (mut part, mut rest) = match read_signed(alloc, levels, skip(text)) {
+        Ok(signed) => signed,
+        Err(refused) => return Err(refused),
+    };
+    let mut from = 0;
+    while from < level {
+        let front = skip(rest);
+        let next = level_at(front);
+        if next < from || next >= level {
+            return Ok((part, front));
+        }
+        match read_behind(alloc, levels, next, part, front) {
+            Ok((joined, more)) => {
+                part = joined;
+                rest = more;
+            }
+            Err(refused) => return Err(refused),
+        }
+        from = next + 1;
     }
-    match read(alloc, levels, level - 1, text) {
-        Ok((part, rest)) => read_behind(alloc, levels, level - 1, part, skip(rest)),
-        Err(refused) => Err(refused),
-    }
+    Ok((part, rest))
 }
 
 /// An operand with what is written before it.

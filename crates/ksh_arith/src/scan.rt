@@ -1,6 +1,7 @@
 //! The bytes of arithmetic: blanks, operators and literals.
 ghost use Rattle.std.specs.Prelude.{◌≡◌, ◌≤◌, ◌^◌, take, drop, length};
 ghost use Rattle.ksh_arith.specs.Grammar.{is_blank, skipped, begins, begins_two, stands_alone, operator_at, multiplying, adding, shifting, comparing, equating, bit_and, bit_xor, bit_or, both, either, comma, assigning, stepping, signing, common_bytes, common_first, is_common, worth, digits_by, some_digits, after_base, literal, Gives, name_length, begins_name, begins_digit};
+ghost use Rattle.ksh_arith.specs.LevelAt.{angled, doubled, level_at, level_by, loose_level, with_equals};
 ghost use Rattle.ksh_base.specs.Name.{starts_name, goes_on_in_name};
 
 use crate::fault::ArithRefused;
@@ -218,6 +219,75 @@ fn comma(text: &[u8]) -> Option<(ChainOp, usize)>
         return Some((ChainOp::Comma, 1));
     }
     None
+}
+
+/// The level behind a byte: one where it stands twice, 12 where `=` makes it one of its kin, and else another.
+fn doubled(byte: u8, twice: u32, once: u32, rest: &[u8]) -> u32
+    ensures { result ≡ doubled byte twice once rest.now }
+{
+    if begins(byte, rest) {
+        return twice;
+    }
+    if begins(b'=', rest) { 12 } else { once }
+}
+
+/// The level behind a byte: one where `=` stands there, and else another.
+fn with_equals(equals: u32, other: u32, rest: &[u8]) -> u32
+    ensures { result ≡ with_equals equals other rest.now }
+{
+    if begins(b'=', rest) { equals } else { other }
+}
+
+/// The level of `<`, `>` and what begins with them.
+fn angled(byte: u8, rest: &[u8]) -> u32
+    ensures { result ≡ angled byte rest.now }
+{
+    if begins(byte, rest) {
+        return with_equals(12, 3, behind(rest, 1));
+    }
+    4
+}
+
+#[tactic(auto, unfolding(crate::specs::LevelAt::loose_level))]
+fn loose_level(byte: u8, rest: &[u8]) -> u32
+    ensures { result ≡ loose_level byte rest.now }
+{
+    match byte {
+        b'=' => with_equals(5, 12, rest),
+        b'!' => with_equals(5, 14, rest),
+        b'&' => doubled(b'&', 9, 6, rest),
+        b'^' => with_equals(12, 7, rest),
+        b'|' => doubled(b'|', 10, 8, rest),
+        b'?' => 11,
+        b',' => 13,
+        _ => 14,
+    }
+}
+
+#[tactic(auto, unfolding(crate::specs::LevelAt::level_by))]
+fn level_by(byte: u8, rest: &[u8]) -> u32
+    ensures { result ≡ level_by byte rest.now }
+{
+    match byte {
+        b'*' => doubled(b'*', 0, 1, rest),
+        b'/' | b'%' => with_equals(12, 1, rest),
+        b'+' => doubled(b'+', 14, 2, rest),
+        b'-' => doubled(b'-', 14, 2, rest),
+        b'<' | b'>' => angled(byte, rest),
+        _ => loose_level(byte, rest),
+    }
+}
+
+/// The level that goes on with the operator at the front of the text: 0 for `**`, 1 to 10 for those that group from the
+/// left, the tightest first, 11 for `?`, 12 for `=` and its kin, 13 for the comma, and 14 where no operator stands there.
+#[tactic(auto, unfolding(crate::specs::LevelAt::level_at))]
+pub fn level_at(text: &[u8]) -> u32
+    ensures { result ≡ level_at text.now }
+{
+    match text.split_first() {
+        Some((first, rest)) => level_by(*first, rest),
+        None => 14,
+    }
 }
 
 /// `=` or one of its kin: the operator that is done before, if any, and the length.

@@ -1,19 +1,36 @@
 use Rattle.std.proofs.Common.{rules, arith, ◌≡◌, ◌∙◌, [], ◌∷◌, ◌++◌, ◌≤◌, ◌+◌, ◌-◌, max, nat_le, true, false, Some, None}
 use Rattle.ksh_arith.specs.Grammar.{skipped, operator_at, joins, height_of}
-use Rattle.ksh_arith.proofs.Levels.{stops, read_none, read_first, read_next, links_zero, links_none, links_deep, links_stop, links_more}
+use Rattle.ksh_arith.proofs.Levels.{read_none, read_starts, read_failed, read_stays, read_goes, read_stops, read_ends, links_zero, links_none, links_deep, links_stop, links_more}
 use Rattle.ksh_arith.proofs.parse.+read.Goals as goal
 
 pub read-returns-then-levels-eq0-clause-means : goal.read-returns-then-levels-eq0-clause-means
 read-returns-then-levels-eq0-clause-means t c = read_none c.args.levels c.args.level c.args.text.now c.if-levels-eq0.true
 
-pub read-returns-then-level-eq0-clause-means : goal.read-returns-then-level-eq0-clause-means
-read-returns-then-level-eq0-clause-means t c = rw (read_first c.args.levels c.args.level c.args.text.now c.if-levels-eq0.false c.if-level-eq0.true) (rw c.skip.ensures at c.read_signed.ensures.means)
-
-pub read-returns-in-Ok-clause-means : goal.read-returns-in-Ok-clause-means
-read-returns-in-Ok-clause-means t c = rw (read_next c.args.levels c.args.level c.args.text.now c.if-levels-eq0.false c.if-level-eq0.false, rw c.in-Ok.is at c.read.ensures.means) (rw c.skip-in-Ok.ensures at c.read_behind.ensures.means)
-
 pub read-returns-in-Err-clause-means : goal.read-returns-in-Err-clause-means
-read-returns-in-Err-clause-means t c = rw (read_next c.args.levels c.args.level c.args.text.now c.if-levels-eq0.false c.if-level-eq0.false) (stops c.in-Err.refused _ _ (rw c.in-Err.is at c.read.ensures.means))
+read-returns-in-Err-clause-means t c = read_failed c.args.levels c.args.level c.args.text.now c.if-levels-eq0.false c.skip.result.now c.in-Err.refused c.skip.ensures (rw c.in-Err.is at c.read_signed.ensures.means)
+
+pub read-loop-from-init : goal.read-loop-from-init
+read-loop-from-init t c = record {
+  so_far = read_starts c.args.levels c.args.level c.args.text.now c.skip.result.now c.in-Ok.signed.0 c.in-Ok.signed.1.now c.skip.ensures (rw c.in-Ok.is at c.read_signed.ensures.means);
+  low = rw c.in-Ok.is at c.read_signed.ensures.small;
+  within = omega arith;
+}
+
+pub read-returns-then-next-from-clause-means : goal.read-returns-then-next-from-clause-means
+read-returns-then-next-from-clause-means t c = read_stays c.args.levels c.args.level c.args.text.now c.if-levels-eq0.false c.loop-from.from c.level_at-next.result c.loop-from.part c.loop-from.rest.now c.skip-front.result.now c.loop-from.invariant.so_far c.skip-front.ensures c.level_at-next.ensures c.requires.level c.loop-from-test.true c.then-next-from.either
+
+pub read-returns-in-Err-read_behind-clause-means : goal.read-returns-in-Err-read_behind-clause-means
+read-returns-in-Err-read_behind-clause-means t c = read_stops c.args.levels c.args.level c.args.text.now c.if-levels-eq0.false c.loop-from.from c.level_at-next.result c.loop-from.part c.loop-from.rest.now c.skip-front.result.now c.loop-from.invariant.so_far c.skip-front.ensures c.level_at-next.ensures c.requires.level c.in-Err-read_behind.refused c.if-next-from.false c.if-next-level.false (rw c.in-Err-read_behind.is at c.read_behind.ensures.means)
+
+pub read-loop-from-preserved : goal.read-loop-from-preserved
+read-loop-from-preserved t c = record {
+  so_far = read_goes c.args.levels c.args.level c.args.text.now c.if-levels-eq0.false c.loop-from.from c.level_at-next.result c.loop-from.part c.loop-from.rest.now c.skip-front.result.now c.loop-from.invariant.so_far c.skip-front.ensures c.level_at-next.ensures c.requires.level c.in-Ok-read_behind.joined c.in-Ok-read_behind.more.now c.if-next-from.false c.if-next-level.false (rw c.in-Ok-read_behind.is at c.read_behind.ensures.means);
+  low = rw c.in-Ok-read_behind.is at c.read_behind.ensures.small;
+  within = omega (arith, c.if-next-level.false);
+}
+
+pub read-returns-clause-means : goal.read-returns-clause-means
+read-returns-clause-means t c = read_ends c.args.levels c.args.level c.args.text.now c.if-levels-eq0.false c.loop-from.from c.loop-from.part c.loop-from.rest.now c.loop-from.invariant.so_far (omega (arith, c.loop-from.invariant.within, c.loop-from-test.false))
 
 pub read_links-returns-in_default-clause-means : goal.read_links-returns-in_default-clause-means
 read_links-returns-in_default-clause-means t c =

@@ -1,9 +1,9 @@
-use Rattle.std.proofs.Common.{◌≡◌, ◌≤◌, ◌+◌, ◌-◌, ◌*◌, [], length}
-use Rattle.ksh_arith.specs.Grammar.{links_read, read_by, height_of}
+use Rattle.std.proofs.Common.{◌≡◌, ◌≤◌, ◌+◌, ◌-◌, ◌*◌, [], length, Ok}
+use Rattle.ksh_arith.specs.Grammar.{at_level, links_read, read_by, height_of}
 use Rattle.ksh_arith.proofs.parse.+read.Given as goal
 
 abbrev pub decreases-read : goal.decreases-read
-decreases-read l = l.levels * 40 + 20 + l.level
+decreases-read l = l.levels * 40 + 20
 
 abbrev pub decreases-read_signed : goal.decreases-read_signed
 decreases-read_signed l = l.levels * 40 + 15
@@ -34,6 +34,17 @@ decreases-assign l = l.levels * 40 + 17
 
 abbrev pub decreases-read_links : goal.decreases-read_links
 decreases-read_links l = l.levels * 40 + 18
+
+-- what was read so far is what is read up to that level
+abbrev pub invariant-read-loop-from : goal.invariant-read-loop-from
+invariant-read-loop-from l = record {
+  so_far : at_level l.levels (read_by (l.levels - 1)) l.from l.fn.text ≡ Ok (l.part, l.rest);
+  low : height_of l.part ≤ l.levels + 2;
+  within : l.from ≤ l.level;
+}
+
+abbrev pub decreases-read-loop-from : goal.decreases-read-loop-from
+decreases-read-loop-from l = l.level - l.from
 
 -- the links that are left stand behind those so far
 abbrev pub invariant-read_links-loop-left : goal.invariant-read_links-loop-left
