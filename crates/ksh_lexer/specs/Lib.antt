@@ -10,6 +10,7 @@ pub mod EndWord
 pub mod Escapes
 pub mod Faults
 pub mod Inside
+pub mod Names
 pub mod Parameters
 pub mod Place
 pub mod Reach
