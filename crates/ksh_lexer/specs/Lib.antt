@@ -15,6 +15,7 @@ pub mod Parameters
 pub mod Place
 pub mod Reach
 pub mod Spelled
+pub mod Spells
 pub mod Tok
 pub mod Unquoted
 pub mod Width

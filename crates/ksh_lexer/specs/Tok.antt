@@ -68,7 +68,7 @@ Skips mode.Value text at from = PastBlanks text at from
 Skips (mode.HereBody tabs expands) text at from = PastTabs (tabs && begins_line text at) text at from
 Skips _ text at from = from ≡ at
 
-abbrev quoted_by : TokenKind → ℕ → ℕ → Option ℕ → Answer
+abbrev pub quoted_by : TokenKind → ℕ → ℕ → Option ℕ → Answer
 quoted_by kind from end None = fault UnclosedQuote from
 quoted_by kind from end (Some b) = if b == 39 then token kind from (end + 1) else fault NotInProfile end
 
@@ -84,7 +84,7 @@ abbrev pub with_descriptor : Descriptor → TokenKind → TokenKind
 with_descriptor d (kinds.Redirect r e) = kinds.Redirect r d
 with_descriptor d kind = kind
 
-abbrev redirect_by : Descriptor → List ℕ → ℕ → ℕ → Begins → Answer
+abbrev pub redirect_by : Descriptor → List ℕ → ℕ → ℕ → Begins → Answer
 redirect_by d text from place (begin.Take kind width) = token (with_descriptor d kind) from (reach text place width)
 redirect_by d text from place (begin.Refuse kind) = fault kind place
 redirect_by d text from place _ = fault NotInProfile place

@@ -25,7 +25,7 @@ pub use end_line::{end_word, is_quoted};
 pub use fault::{SyntaxFault, SyntaxKind};
 pub use here::{Body, HereDocument};
 pub use kind::{Descriptor, Form, Operator, Redirection, Token, TokenKind};
-pub use laws::{longest_operator, one_answer};
+pub use laws::{longest_operator, one_answer, spells};
 pub use lexer::{LONGEST_TEXT, Lexer};
 pub use mode::{BraceEnd, LexMode};
 pub use names::is_path;
