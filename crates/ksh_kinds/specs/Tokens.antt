@@ -55,8 +55,15 @@ form_kind form.ReplaceTail = kind.Replace
 abbrev pub assigns_nothing : List ℕ → Bool
 assigns_nothing w = is_path (path_front w) && (bytes_eq (drop (length (path_front w)) w) (codes "=") || bytes_eq (drop (length (path_front w)) w) (codes "+="))
 
-abbrev pub bare_kind : List ℕ → Option ℕ → Kind
-bare_kind w behind = if is 40 behind && assigns_nothing w then kind.ValueOpen else word_kind w
+-- assignments are looked for between the words of commands and of values alone
+abbrev pub may_assign : Mode → Bool
+may_assign mode.Command = true
+may_assign mode.Value = true
+may_assign _ = false
+
+-- a whole word of plain bytes, where assignments are looked for or not
+abbrev pub bare_kind : Bool → List ℕ → Option ℕ → Kind
+bare_kind looks w behind = if looks && (is 40 behind && assigns_nothing w) then kind.ValueOpen else word_kind looks w
 
 -- a blank or a newline comes next
 abbrev pub parts : Option ℕ → Bool
@@ -70,7 +77,7 @@ kind_by rest behind m token.Newline = kind.Newline
 kind_by rest behind m (token.Operator o) = operator_kind o
 kind_by rest behind m (token.Redirect r d) = redirect_kind m r
 kind_by rest behind m token.Bare = kind.Other
-kind_by rest behind m token.Start = if is_assignment rest then kind.StartAssignment else kind.Start
+kind_by rest behind m token.Start = if may_assign m && is_assignment rest then kind.StartAssignment else kind.Start
 kind_by rest behind m token.Element = kind.Element
 kind_by rest behind m token.Key = kind.Key
 kind_by rest behind m token.WordEnd = kind.WordEnd
@@ -110,5 +117,5 @@ is_bare k = false
 
 abbrev pub kind_of : List ℕ → Mode → Token → Kind
 kind_of text m t =
-    if is_bare t.kind then bare_kind (take (t.to - t.from) (drop t.from text)) (slice_get text t.to)
+    if is_bare t.kind then bare_kind (may_assign m) (take (t.to - t.from) (drop t.from text)) (slice_get text t.to)
     else kind_by (drop t.from text) (slice_get text t.to) m t.kind

@@ -112,11 +112,11 @@ abbrev pub or_kind : Option Kind → Kind → Kind
 or_kind (Some k) l = k
 or_kind None l = l
 
--- what the bytes are
-abbrev pub shape : List ℕ → Kind
-shape w =
+-- what the bytes are, where assignments are looked for or not
+abbrev pub shape : Bool → List ℕ → Kind
+shape looks w =
     if is_path w then (if has_dot w then kind.Dotted else kind.Name) else
-    if is_assignment w then kind.Assignment else or_kind (test w) kind.Other
+    if looks && is_assignment w then kind.Assignment else or_kind (test w) kind.Other
 
-abbrev pub word_kind : List ℕ → Kind
-word_kind w = or_kind (known w) (shape w)
+abbrev pub word_kind : Bool → List ℕ → Kind
+word_kind looks w = or_kind (known w) (shape looks w)

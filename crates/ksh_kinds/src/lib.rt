@@ -32,18 +32,19 @@ mod tests {
             (b"-ge", Kind::Binary),
         ];
         for (word, kind) in rows {
-            assert!(rt; word_kind(word) == kind);
+            assert!(rt; word_kind(true, word) == kind);
         }
+        assert!(rt; word_kind(false, b"x=1") == Kind::Other);
         Ok(())
     }
 
     // The kind of a text's first token.
-    fn first(alloc: Global, text: &[u8]) -> Option<Kind> {
+    fn first(alloc: Global, lex_mode: LexMode, mode: Mode, text: &[u8]) -> Option<Kind> {
         let Ok(mut lexer) = Lexer::new(alloc, text) else {
             return None;
         };
-        match lexer.next(LexMode::Command) {
-            Ok(token) => Some(kind_of(text, Mode::Command, token)),
+        match lexer.next(lex_mode) {
+            Ok(token) => Some(kind_of(text, mode, token)),
             Err(_) => None,
         }
     }
@@ -61,8 +62,28 @@ mod tests {
             (b"a[1]=b", Kind::Element),
         ];
         for (text, kind) in rows {
-            assert!(rt; first(rt.alloc(), text) == Some(kind));
+            assert!(rt; first(rt.alloc(), LexMode::Command, Mode::Command, text) == Some(kind));
         }
+        Ok(())
+    }
+
+    #[test]
+    fn patterns_and_conditions_assign_nothing(rt: HostRuntime) -> Result<(), Fail> {
+        let rows: [(&[u8], Kind); 5] = [
+            (b"x=(a)", Kind::Other),
+            (b"x+=b", Kind::Other),
+            (b"y=$z", Kind::Start),
+            (b"a[1]=b", Kind::Other),
+            (b"x", Kind::Name),
+        ];
+        for (text, kind) in rows {
+            let pattern = first(rt.alloc(), LexMode::Pattern, Mode::Pattern, text);
+            let condition = first(rt.alloc(), LexMode::Condition, Mode::Condition, text);
+            assert!(rt; pattern == Some(kind) && condition == Some(kind));
+        }
+        assert!(rt;
+            first(rt.alloc(), LexMode::Value, Mode::Value, b"x=(a)") == Some(Kind::ValueOpen)
+        );
         Ok(())
     }
 }

@@ -1,6 +1,6 @@
 //! What tokens are for the grammar.
 ghost use Rattle.std.specs.Prelude.{◌≡◌, ◌≤◌, length};
-ghost use Rattle.ksh_kinds.specs.Tokens.{assigns_nothing, bare_kind, form_kind, is_bare, kind_by, kind_of, operator_kind, parts, redirect_kind};
+ghost use Rattle.ksh_kinds.specs.Tokens.{assigns_nothing, bare_kind, form_kind, is_bare, kind_by, kind_of, may_assign, operator_kind, parts, redirect_kind};
 
 use crate::words::{is_assignment, is_path, path_len, word_kind};
 use ksh_lexer::{Form, Operator, Redirection, Token, TokenKind};
@@ -13,7 +13,7 @@ pub fn kind_of(text: &[u8], mode: Mode, token: Token) -> Kind
 {
     let behind = text.get(token.to).copied();
     if is_bare(token.kind) {
-        bare_kind(&text[token.from..token.to], behind)
+        bare_kind(may_assign(mode), &text[token.from..token.to], behind)
     } else {
         kind_by(&text[token.from..], behind, mode, token.kind)
     }
@@ -26,14 +26,21 @@ fn is_bare(kind: TokenKind) -> bool
     matches!(kind, TokenKind::Bare)
 }
 
-/// What a whole word of plain bytes is, behind which that byte comes.
-fn bare_kind(word: &[u8], behind: Option<u8>) -> Kind
-    ensures { result ≡ bare_kind word.now behind }
+/// Whether assignments are looked for.
+fn may_assign(mode: Mode) -> bool
+    ensures { result ≡ may_assign mode }
 {
-    if behind == Some(b'(') && assigns_nothing(word) {
+    matches!(mode, Mode::Command | Mode::Value)
+}
+
+/// What a whole word of plain bytes is, behind which that byte comes, where assignments are looked for or not.
+fn bare_kind(looks: bool, word: &[u8], behind: Option<u8>) -> Kind
+    ensures { result ≡ bare_kind looks word.now behind }
+{
+    if looks && behind == Some(b'(') && assigns_nothing(word) {
         Kind::ValueOpen
     } else {
-        word_kind(word)
+        word_kind(looks, word)
     }
 }
 
@@ -63,7 +70,7 @@ fn kind_by(rest: &[u8], behind: Option<u8>, mode: Mode, kind: TokenKind) -> Kind
         TokenKind::Operator(operator) => operator_kind(operator),
         TokenKind::Redirect(redirection, _) => redirect_kind(mode, redirection),
         TokenKind::Bare => Kind::Other,
-        TokenKind::Start if is_assignment(rest) => Kind::StartAssignment,
+        TokenKind::Start if may_assign(mode) && is_assignment(rest) => Kind::StartAssignment,
         TokenKind::Start => Kind::Start,
         TokenKind::Element => Kind::Element,
         TokenKind::Key => Kind::Key,

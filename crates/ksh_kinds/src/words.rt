@@ -5,13 +5,13 @@ ghost use Rattle.ksh_kinds.specs.Words.{are_more, are_names, assigns, has_dot, i
 
 use ksh_syntax::Kind;
 
-/// The kind of a whole word of plain bytes.
-pub fn word_kind(word: &[u8]) -> Kind
-    ensures { result ≡ word_kind word.now }
+/// The kind of a whole word of plain bytes, where assignments are looked for or not.
+pub fn word_kind(looks: bool, word: &[u8]) -> Kind
+    ensures { result ≡ word_kind looks word.now }
 {
     match known(word) {
         Some(kind) => kind,
-        None => shape(word),
+        None => shape(looks, word),
     }
 }
 
@@ -107,8 +107,8 @@ fn test(word: &[u8]) -> Option<Kind>
 }
 
 /// What the bytes of a word are that isn't known by its letters.
-fn shape(word: &[u8]) -> Kind
-    ensures { result ≡ shape word.now }
+fn shape(looks: bool, word: &[u8]) -> Kind
+    ensures { result ≡ shape looks word.now }
 {
     if is_path(word) {
         if has_dot(word) {
@@ -116,7 +116,7 @@ fn shape(word: &[u8]) -> Kind
         } else {
             Kind::Name
         }
-    } else if is_assignment(word) {
+    } else if looks && is_assignment(word) {
         Kind::Assignment
     } else {
         match test(word) {

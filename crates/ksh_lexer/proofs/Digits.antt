@@ -11,7 +11,7 @@ use Rattle.ksh_lexer.specs.declared.mode.LexMode.TheVariants as mode
 use Rattle.ksh_lexer.specs.declared.kind.Operator.{Operator}
 use Rattle.ksh_lexer.specs.declared.kind.Form.{Form}
 use Rattle.ksh_lexer.specs.Between.{between, greater, less, operator, operator_or, word}
-use Rattle.ksh_lexer.specs.Parameters.{bracket, form, form_of, form_or, is_measured, is_other_special, is_path, length_or_special, member, parameter, starts, target_or_special}
+use Rattle.ksh_lexer.specs.Parameters.{bracket, form, form_of, form_or, begins_path, is_measured, is_other_special, length_or_special, member, parameter, starts, target_or_special}
 use Rattle.ksh_lexer.specs.Bytes.{is, is_digit, starts_name}
 use Rattle.ksh_lexer.specs.Begin.{begins}
 
@@ -147,7 +147,7 @@ parameter_digit a b c = go (a == 0) (a == 33) (a == 35) (is_digit a) (a == 64 ||
     go : (t u v w x y : Bool) → (if t then Refuse NotInProfile else if u then target_or_special b else if v then length_or_special b c else
         if w then Digits else if x then Take kinds.Special 1 else if y then Name else Refuse BadName) ≡ Digit → ⊥
     go true u v w x y e = cc
-    go false true v w x y e = refuted (target_or_special b) (either (is_path b) (Take kinds.Target 1) (Take kinds.Special 1) refl refl) e
+    go false true v w x y e = refuted (target_or_special b) (either (begins_path b) (Take kinds.Target 1) (Take kinds.Special 1) refl refl) e
     go false false true w x y e = refuted (length_or_special b c) (either (is_measured b || (is_other_special b && is 125 c)) (Take kinds.Length 1) (Take kinds.Special 1) refl refl) e
     go false false false true x y e = cc
     go false false false false true y e = cc

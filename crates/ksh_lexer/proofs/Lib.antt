@@ -1,6 +1,7 @@
 pub mod Ansi
 pub mod Counts
 pub mod Digits
+pub mod Fits
 pub mod Found
 pub mod Lines
 pub mod Longest
@@ -8,6 +9,7 @@ pub mod Ordinary
 pub mod Present
 pub mod Runs
 pub mod Span
+pub mod Spelling
 pub mod Steps
 pub mod Unique
 pub mod Widths

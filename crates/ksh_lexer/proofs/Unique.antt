@@ -13,7 +13,7 @@ use Rattle.ksh_lexer.specs.declared.scan.Class.TheVariants as class
 use Rattle.ksh_lexer.specs.Begin.{begins_at, runs}
 use Rattle.ksh_lexer.specs.Class.{in_class}
 use Rattle.ksh_lexer.specs.Reach.{IsRun, at_byte, next}
-use Rattle.ksh_lexer.specs.Tok.{Answer, AtComment, Comes, IsFault, NamedBy, PastBlanks, PastTabs, Skips, Stands, Tok, WordAt, WordBy, bare, begins_line, fault, group, is_element, is_key, is_named, quoted, token}
+use Rattle.ksh_lexer.specs.Tok.{Answer, AtComment, Comes, IsFault, NamedBy, PastBlanks, PastTabs, Skips, Stands, Tok, WordAt, WordBy, bare, begins_line, fault, group, is_element, is_key, is_named, name, quoted, token}
 use Rattle.ksh_lexer.proofs.Runs.{one_run}
 
 comment_one : (t : Bool) (text : List ℕ) (place x y : ℕ) → AtComment t text place x → AtComment t text place y → x ≡ y
@@ -86,7 +86,7 @@ stands_one m text from begin.Expand x y a b = run_one (at_byte (in_class class.N
 stands_one m text from begin.Special x y a b = a ∙ sym b
 stands_one m text from begin.Group x y a b = run_one (at_byte (not_in (41 ∷ 10 ∷ []))) text (next text from + 1) (λ e. group text from e) x y a b
 stands_one m text from begin.Run x y a b = run_one (runs m) text from (λ e. token kinds.Plain from e) x y a b
-stands_one m text from begin.Name x y a b = run_one (at_byte (in_class class.Name)) text (from + 1) (λ e. token kinds.Name from e) x y a b
+stands_one m text from begin.Name x y a b = run_one (at_byte (in_class class.Name)) text (from + 1) (λ e. name text from e) x y a b
 stands_one m text from begin.Digits x y a b = run_one (at_byte (in_class class.Digit)) text from (λ e. token kinds.Digits from e) x y a b
 stands_one m text from begin.Member x y a b = run_one (at_byte (in_class class.Name)) text (next text from) (λ e. token (kinds.Member (next text from)) from e) x y a b
 

@@ -10,10 +10,12 @@ pub mod EndWord
 pub mod Escapes
 pub mod Faults
 pub mod Inside
+pub mod Names
 pub mod Parameters
 pub mod Place
 pub mod Reach
 pub mod Spelled
+pub mod Spells
 pub mod Tok
 pub mod Unquoted
 pub mod Width

@@ -8,10 +8,10 @@ use Rattle.ksh_lexer.specs.declared.kind.Form.TheVariants.{Instead, Assign, Faul
 use Rattle.ksh_lexer.specs.declared.fault.SyntaxKind.TheVariants.{NotInProfile, BadName, UnexpectedToken}
 use Rattle.ksh_lexer.specs.Bytes.{is, is_digit, starts_name}
 
--- a name or a `.` comes next
-abbrev pub is_path : Option ℕ → Bool
-is_path None = false
-is_path (Some b) = b == 46 || starts_name b
+-- a letter, `_` or a `.` comes next
+abbrev pub begins_path : Option ℕ → Bool
+begins_path None = false
+begins_path (Some b) = b == 46 || starts_name b
 
 -- a parameter comes next that is no special one, or `@` or `*`
 abbrev pub is_measured : Option ℕ → Bool
@@ -24,13 +24,13 @@ is_other_special None = false
 is_other_special (Some b) = b == 63 || (b == 36 || (b == 33 || (b == 45 || b == 35)))
 
 abbrev pub target_or_special : Option ℕ → Begins
-target_or_special second = if is_path second then Take token.Target 1 else Take token.Special 1
+target_or_special second = if begins_path second then Take token.Target 1 else Take token.Special 1
 
 abbrev pub length_or_special : Option ℕ → Option ℕ → Begins
 length_or_special second third =
     if is_measured second || (is_other_special second && is 125 third) then Take token.Length 1 else Take token.Special 1
 
--- `!` before a name, `#` before a parameter, digits, a special parameter, a name or `.sh`; else no name begins there
+-- `!` before a name, `#` before a parameter, digits, a special parameter, a name or a `.`; else no name begins there
 abbrev pub parameter : Option ℕ → Option ℕ → Option ℕ → Begins
 parameter None second third = Take token.End 0
 parameter (Some b) second third =

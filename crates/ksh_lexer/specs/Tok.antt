@@ -1,5 +1,5 @@
 -- The token that comes at a place of a text under a mode, or the fault where none does.
-use Rattle.std.specs.Prelude.{◌≡◌, ℕ, ◌+◌, ◌-◌, Bool, true, false, ◌||◌, ◌&&◌, ◌==◌, nat_lt, List, [], ◌∷◌, drop, slice_get, slice_index, Option, Some, None, Result, Ok, Err, if◌then◌else◌}
+use Rattle.std.specs.Prelude.{◌≡◌, ℕ, ◌+◌, ◌-◌, Bool, true, false, ◌||◌, ◌&&◌, ◌==◌, nat_lt, List, [], ◌∷◌, take, drop, slice_get, slice_index, Option, Some, None, Result, Ok, Err, if◌then◌else◌}
 use Rattle.bstr.specs.Bytes.{not_in}
 use Rattle.ksh_lexer.specs.declared.outer.Begins.{Begins}
 use Rattle.ksh_lexer.specs.declared.outer.Begins.TheVariants as begin
@@ -9,7 +9,7 @@ use Rattle.ksh_lexer.specs.declared.kind.TokenKind.TheVariants as kinds
 use Rattle.ksh_lexer.specs.declared.kind.Descriptor.{Descriptor}
 use Rattle.ksh_lexer.specs.declared.kind.Descriptor.TheVariants.{Digit, Named}
 use Rattle.ksh_lexer.specs.declared.fault.SyntaxKind.{SyntaxKind}
-use Rattle.ksh_lexer.specs.declared.fault.SyntaxKind.TheVariants.{NotInProfile, UnclosedQuote}
+use Rattle.ksh_lexer.specs.declared.fault.SyntaxKind.TheVariants.{BadName, NotInProfile, UnclosedQuote}
 use Rattle.ksh_lexer.specs.declared.lex.LexFault.{LexFault}
 use Rattle.ksh_lexer.specs.declared.mode.LexMode.{LexMode}
 use Rattle.ksh_lexer.specs.declared.mode.LexMode.TheVariants as mode
@@ -20,6 +20,7 @@ use Rattle.ksh_lexer.specs.Brackets.{after_bracket, continues_assignment, is_ass
 use Rattle.ksh_lexer.specs.Bytes.{is, is_blank, starts_name, ends_word}
 use Rattle.ksh_lexer.specs.Class.{in_class}
 use Rattle.ksh_lexer.specs.Escapes.{ansi_end}
+use Rattle.ksh_lexer.specs.Names.{is_name, is_path}
 use Rattle.ksh_lexer.specs.Reach.{IsRun, at_byte, next, reach, span}
 
 abbrev pub Answer : Type 0
@@ -30,6 +31,10 @@ token kind from to = Ok (record { kind = kind; from = from; to = to })
 
 abbrev pub fault : SyntaxKind → ℕ → Answer
 fault kind byte = Err (record { kind = kind; byte = byte })
+
+-- the bytes from one place to another
+abbrev pub bytes_between : List ℕ → ℕ → ℕ → List ℕ
+bytes_between text from to = take (to - from) (drop from text)
 
 -- the bytes of that class from one place to another
 abbrev pub OfClass : (ℕ → Bool) → List ℕ → ℕ → ℕ → Type 0
@@ -63,7 +68,7 @@ Skips mode.Value text at from = PastBlanks text at from
 Skips (mode.HereBody tabs expands) text at from = PastTabs (tabs && begins_line text at) text at from
 Skips _ text at from = from ≡ at
 
-abbrev quoted_by : TokenKind → ℕ → ℕ → Option ℕ → Answer
+abbrev pub quoted_by : TokenKind → ℕ → ℕ → Option ℕ → Answer
 quoted_by kind from end None = fault UnclosedQuote from
 quoted_by kind from end (Some b) = if b == 39 then token kind from (end + 1) else fault NotInProfile end
 
@@ -79,7 +84,7 @@ abbrev pub with_descriptor : Descriptor → TokenKind → TokenKind
 with_descriptor d (kinds.Redirect r e) = kinds.Redirect r d
 with_descriptor d kind = kind
 
-abbrev redirect_by : Descriptor → List ℕ → ℕ → ℕ → Begins → Answer
+abbrev pub redirect_by : Descriptor → List ℕ → ℕ → ℕ → Begins → Answer
 redirect_by d text from place (begin.Take kind width) = token (with_descriptor d kind) from (reach text place width)
 redirect_by d text from place (begin.Refuse kind) = fault kind place
 redirect_by d text from place _ = fault NotInProfile place
@@ -108,8 +113,8 @@ is_value _ = false
 
 -- a path, and a subscript with which an assignment goes on
 abbrev pub is_element : LexMode → List ℕ → ℕ → ℕ → Bool
-is_element m text from end = may_assign m && ((starts_name (slice_index text from) || slice_index text from == 46)
-    && (is 91 (slice_get text end) && continues_assignment (after_bracket 0 (drop (end + 1) text))))
+is_element m text from end = may_assign m && (is 91 (slice_get text end)
+    && (is_path (bytes_between text from end) && continues_assignment (after_bracket 0 (drop (end + 1) text))))
 
 -- a key of a value: a bracket, and a `=` behind it
 abbrev pub is_key : LexMode → List ℕ → ℕ → Bool
@@ -132,6 +137,10 @@ WordBy false false text from path out = (end : ℕ) × IsRun (runs mode.Word) te
 abbrev pub WordAt : LexMode → List ℕ → ℕ → Answer → Type 0
 WordAt m text from out = (path : ℕ) × OfClass (in_class class.Path) text from path × WordBy (is_element m text from path) (is_key m text from) text from path out
 
+-- the name of a parameter in braces; what begins with a dot is `.sh`
+abbrev pub name : List ℕ → ℕ → ℕ → Answer
+name text from end = if is_name (bytes_between text from end) then token kinds.Name from end else fault BadName from
+
 abbrev pub NamedBy : Bool → LexMode → List ℕ → ℕ → ℕ → Answer → Type 0
 NamedBy true m text from end out = out ≡ redirect (Named end) text from (next text end)
 NamedBy false m text from end out = WordAt m text from out
@@ -150,7 +159,7 @@ Stands m text from begin.Expand out = (end : ℕ) × OfClass (in_class class.Nam
 Stands m text from begin.Special out = out ≡ token (kinds.Expand (next text from)) from (next text from + 1)
 Stands m text from begin.Group out = (stop : ℕ) × OfClass (not_in (41 ∷ 10 ∷ [])) text (next text from + 1) stop × (out ≡ group text from stop)
 Stands m text from begin.Run out = (end : ℕ) × IsRun (runs m) text from end × (out ≡ token kinds.Plain from end)
-Stands m text from begin.Name out = (end : ℕ) × OfClass (in_class class.Name) text (from + 1) end × (out ≡ token kinds.Name from end)
+Stands m text from begin.Name out = (end : ℕ) × OfClass (in_class class.Name) text (from + 1) end × (out ≡ name text from end)
 Stands m text from begin.Digits out = (end : ℕ) × OfClass (in_class class.Digit) text from end × (out ≡ token kinds.Digits from end)
 Stands m text from begin.Member out = (end : ℕ) × OfClass (in_class class.Name) text (next text from) end × (out ≡ token (kinds.Member (next text from)) from end)
 

@@ -4,7 +4,7 @@ ghost use Rattle.ksh_lexer.specs.Bytes.{is};
 ghost use Rattle.ksh_lexer.specs.Tok.{is_element, is_key, is_value, may_assign};
 
 use crate::mode::LexMode;
-use crate::piece::starts_name;
+use crate::names::is_path;
 
 /// How many brackets may be open inside a subscript.
 const MOST_OPEN: u32 = 63;
@@ -67,13 +67,10 @@ pub(crate) fn is_at(text: &[u8], at: usize, byte: u8) -> bool
 
 /// Whether the path between two places is that of an element, with which an assignment goes on.
 pub(crate) fn is_element(mode: LexMode, text: &[u8], from: usize, end: usize) -> bool
-    requires { (from < length text.now) × (end ≤ length text.now) }
+    requires { (from ≤ end) × (end ≤ length text.now) }
     ensures { result ≡ is_element mode text.now from end }
 {
-    if !may_assign(mode) || !(starts_name(text[from]) || text[from] == b'.') {
-        return false;
-    }
-    if !is_at(text, end, b'[') {
+    if !may_assign(mode) || !is_at(text, end, b'[') || !is_path(&text[from..end]) {
         return false;
     }
     match after_bracket(&text[end + 1..]) {

@@ -3,6 +3,7 @@ ghost use Rattle.ksh_lexer.specs.declared.fault.SyntaxKind.{SyntaxKind};
 ghost use Rattle.ksh_lexer.specs.declared.kind.Token.{Token};
 ghost use Rattle.ksh_lexer.specs.declared.mode.LexMode.{LexMode};
 ghost use Rattle.ksh_lexer.specs.Spelled.{LongestOperator, LongestRedirection};
+ghost use Rattle.ksh_lexer.specs.Spells.{Spells};
 ghost use Rattle.ksh_lexer.specs.Tok.{IsFault, Tok};
 
 /// At one place under one mode comes one token, or one fault and no token.
@@ -18,4 +19,9 @@ pub fn one_answer()
 pub fn longest_operator()
     ensures operator { LongestOperator }
     ensures redirection { LongestRedirection }
+{}
+
+/// The bytes of a token are names where names are told, and paths where an element is.
+pub fn spells()
+    ensures { Spells }
 {}

@@ -5,7 +5,7 @@ ghost use Rattle.ksh_lexer.specs.Clear.{IsClear};
 ghost use Rattle.ksh_lexer.specs.Place.{longest_text};
 ghost use Rattle.ksh_lexer.specs.Reach.{next, reach};
 ghost use Rattle.ksh_lexer.specs.Escapes.{ansi_end, at_ansi_end};
-ghost use Rattle.ksh_lexer.specs.Tok.{Comes, PastBlanks, Skips, Stands, WordAt, bare, begins_line, is_named, fault, quoted, redirect, token, with_descriptor, word_ends};
+ghost use Rattle.ksh_lexer.specs.Tok.{Comes, PastBlanks, Skips, Stands, WordAt, bare, begins_line, is_named, fault, name, quoted, redirect, token, with_descriptor, word_ends};
 ghost use Rattle.ksh_lexer.specs.Width.{width};
 ghost use Rattle.ksh_lexer.specs.declared.outer.Begins.TheVariants as Begins;
 ghost use Rattle.ksh_lexer.specs.declared.mode.LexMode.TheVariants as LexMode;
@@ -14,6 +14,7 @@ use crate::bracket::{is_at, is_element, is_key};
 use crate::fault::SyntaxKind;
 use crate::kind::{Descriptor, Token, TokenKind};
 use crate::mode::LexMode;
+use crate::names::is_name;
 use crate::outer::{Begins, greater, less};
 use crate::piece::{ends_word, starts_name};
 use crate::scan::{Class, class_end, find_set, look, next, past_blanks, reach};
@@ -275,13 +276,33 @@ fn stands(
         Begins::Special => special(mode, text, from),
         Begins::Group => group(text, from, clear),
         Begins::Run => token(TokenKind::Plain, from, run_end(mode, text, from)),
-        Begins::Name => token(
-            TokenKind::Name,
-            from,
-            class_end(Class::Name, text, from + 1),
-        ),
+        Begins::Name => parameter_name(mode, text, from),
         Begins::Digits => token(TokenKind::Digits, from, class_end(Class::Digit, text, from)),
         Begins::Member => member(mode, text, from),
+    }
+}
+
+/// The name of a parameter in braces. What begins with a dot is `.sh`.
+fn parameter_name(mode: LexMode, text: &[u8], from: usize) -> Result<Token, LexFault>
+    requires size { length text.now ≤ longest_text }
+    requires place { from < length text.now }
+    ensures name { Stands mode text.now from Begins.Name result }
+    ensures within { IfOk result (λ t. (from ≤ t.from) × (t.from ≤ t.to) × (t.to ≤ length text.now)) }
+{
+    let end = class_end(Class::Name, text, from + 1);
+    name(text, from, end)
+}
+
+fn name(text: &[u8], from: usize, end: usize) -> Result<Token, LexFault>
+    requires size { length text.now ≤ longest_text }
+    requires place { (from ≤ end) × (end ≤ length text.now) }
+    ensures name { result ≡ name text.now from end }
+    ensures within { IfOk result (λ t. (from ≤ t.from) × (t.from ≤ t.to) × (t.to ≤ length text.now)) }
+{
+    if is_name(&text[from..end]) {
+        token(TokenKind::Name, from, end)
+    } else {
+        fault(SyntaxKind::BadName, from)
     }
 }
 

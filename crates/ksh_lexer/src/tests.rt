@@ -187,6 +187,65 @@ fn words_are_cut_at_their_ends(rt: HostRuntime) -> Result<(), Fail> {
 }
 
 #[test]
+fn paths_are_names_between_dots(rt: HostRuntime) -> Result<(), Fail> {
+    let alloc = rt.alloc();
+    let elements: [(&[u8], usize); 4] = [
+        (b"a[1]=b", 1),
+        (b"a.b_2[1].c=d", 5),
+        (b".sh.x[1]+=y", 5),
+        (b".sh.x.y[1][2]=z", 7),
+    ];
+    for (text, to) in elements {
+        let row = (LexMode::Command, TokenKind::Element, 0, to);
+        assert!(rt; come(alloc, text, &[row]));
+    }
+    let words: [&[u8]; 8] = [
+        b".x[1]=2",
+        b"x..y[1]=2",
+        b"a.1[2]=x",
+        b"a.[1]=2",
+        b".sh[1]=2",
+        b".sh..x[1]=2",
+        b"1a[1]=2",
+        b".[1]=2",
+    ];
+    for text in words {
+        for mode in [LexMode::Command, LexMode::Argument, LexMode::Value] {
+            let row = (mode, TokenKind::Bare, 0, text.len());
+            assert!(rt; come(alloc, text, &[row]));
+        }
+    }
+    Ok(())
+}
+
+#[test]
+fn names_below_sh_begin_with_a_dot(rt: HostRuntime) -> Result<(), Fail> {
+    let alloc = rt.alloc();
+    let parameter = LexMode::Parameter;
+    assert!(rt;
+        come(
+            alloc,
+            b".sh.x}",
+            &[
+                (parameter, TokenKind::Name, 0, 3),
+                (LexMode::Form, TokenKind::Member(4), 3, 5),
+            ]
+        )
+    );
+    assert!(rt; come(alloc, b"!.sh}", &[(parameter, TokenKind::Target, 0, 1)]));
+    for text in [b"!.x}".as_slice(), b"#.x}".as_slice()] {
+        let mut lexer = Lexer::new(alloc, text)?;
+        assert!(rt; lexer.next(parameter).is_ok());
+        let bad = SyntaxFault {
+            kind: SyntaxKind::BadName,
+            place: Place { line: 1, byte: 1 },
+        };
+        assert!(rt; lexer.next(parameter) == Err(bad));
+    }
+    Ok(())
+}
+
+#[test]
 fn pieces_follow_each_other(rt: HostRuntime) -> Result<(), Fail> {
     let alloc = rt.alloc();
     let word = LexMode::Word;
@@ -269,7 +328,7 @@ fn pieces_follow_each_other(rt: HostRuntime) -> Result<(), Fail> {
 #[test]
 fn faults_stand_at_their_places(rt: HostRuntime) -> Result<(), Fail> {
     let alloc = rt.alloc();
-    let rows: [(&[u8], LexMode, SyntaxKind, u32, u32); 14] = [
+    let rows: [(&[u8], LexMode, SyntaxKind, u32, u32); 18] = [
         (b"'a", LexMode::Word, SyntaxKind::UnclosedQuote, 1, 0),
         (b"$'a\\'", LexMode::Word, SyntaxKind::UnclosedQuote, 1, 0),
         (
@@ -300,6 +359,10 @@ fn faults_stand_at_their_places(rt: HostRuntime) -> Result<(), Fail> {
         (b"2>#", LexMode::Command, SyntaxKind::NotInProfile, 1, 1),
         (b"~(a)", LexMode::Word, SyntaxKind::NotInProfile, 1, 0),
         (b"}", LexMode::Parameter, SyntaxKind::BadName, 1, 0),
+        (b".x}", LexMode::Parameter, SyntaxKind::BadName, 1, 0),
+        (b".}", LexMode::Parameter, SyntaxKind::BadName, 1, 0),
+        (b".shx}", LexMode::Parameter, SyntaxKind::BadName, 1, 0),
+        (b"..sh}", LexMode::Parameter, SyntaxKind::BadName, 1, 0),
         (b"^}", LexMode::Form, SyntaxKind::UnexpectedToken, 1, 0),
         (b"\0", LexMode::Arithmetic, SyntaxKind::NotInProfile, 1, 0),
     ];

@@ -1,4 +1,4 @@
-use Rattle.std.proofs.Common.{rules, arith, ◌<◌, length}
+use Rattle.std.proofs.Common.{rules, arith}
 use Rattle.ksh_lexer.specs.declared.outer.Begins.TheVariants.{Digit, Brace, Start, Single, Ansi, Expand, Special, Group, Name, Member}
 use Rattle.ksh_lexer.proofs.Present.{here, behind, digit_there, redirection_there}
 use Rattle.ksh_lexer.proofs.lex.stands.Goals as goal
@@ -36,10 +36,8 @@ group-requires-clause-from c = here _ _ _ _ c.args.begins Group (search rules) (
 pub group-requires-clause-open : goal.group-requires-clause-open
 group-requires-clause-open c = behind _ _ _ _ c.args.begins Group (search rules) (omega arith) c.requires.fits
 
-pub class_end-requires : goal.class_end-requires
-class_end-requires c =
-    let low : c.args.from < length c.args.text.now = here _ _ _ _ c.args.begins Name (search rules) (omega arith) c.requires.fits in
-    omega (arith, low)
+pub parameter_name-requires-clause-place : goal.parameter_name-requires-clause-place
+parameter_name-requires-clause-place c = here _ _ _ _ c.args.begins Name (search rules) (omega arith) c.requires.fits
 
 pub member-requires : goal.member-requires
 member-requires c = behind _ _ _ _ c.args.begins Member (search rules) (omega arith) c.requires.fits
