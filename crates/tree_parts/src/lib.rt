@@ -29,6 +29,3 @@ pub use parameters::{formed, plain_form, simple_param};
 pub use redirections::{redirect_form, redirect_to};
 pub use sign::{Moment, Sign};
 pub use values::value_of;
-
-#[cfg(test)]
-mod tests;

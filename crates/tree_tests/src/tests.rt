@@ -1,10 +1,13 @@
-use super::*;
 use ksh_ast::{Assign, AssignValue, Member, ParamOf, Piece, Test, Word};
 use ksh_base::{Items, Memory};
 use ksh_lexer::TokenKind;
 use ksh_syntax::{Kind, Mode};
 use std::alloc::Global;
 use std::test::Fail;
+use tree_parts::{
+    Entry, Sign, add_token, adds, assignment_of, literal_word, part_of_for, path_word, quotes,
+    simple_param, test_of, value_of,
+};
 
 fn sign(mode: Mode, token: TokenKind) -> Sign {
     Sign {
