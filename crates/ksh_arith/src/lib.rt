@@ -15,6 +15,3 @@ pub use ask::{VarAnswer, VarAsk};
 pub use eval::eval_arith;
 pub use fault::{ArithFault, ArithRefused, NumFault};
 pub use parse::parse_arith;
-
-#[cfg(test)]
-mod tests;

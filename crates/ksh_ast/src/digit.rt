@@ -49,16 +49,3 @@ impl Digit {
         }
     }
 }
-
-#[cfg(test)]
-mod tests {
-    use super::*;
-    use std::test::Fail;
-
-    #[test]
-    fn digits_are_read_or_refused(rt: HostRuntime) -> Result<(), Fail> {
-        assert!(rt; Digit::read(b'7').is_some_and(|digit| digit.copy().number() == 7));
-        assert!(rt; Digit::read(b'/').is_none() && Digit::read(b':').is_none());
-        Ok(())
-    }
-}

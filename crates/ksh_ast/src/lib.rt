@@ -10,8 +10,6 @@ mod digit;
 mod kinds;
 mod redirect;
 mod redirect_copies;
-#[cfg(test)]
-mod tests;
 mod tree;
 mod word_copies;
 

@@ -17,8 +17,6 @@ mod parameter;
 mod piece;
 mod scan;
 mod table;
-#[cfg(test)]
-mod tests;
 mod unquote;
 
 pub use end_line::{end_word, is_quoted};

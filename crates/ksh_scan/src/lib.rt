@@ -10,8 +10,6 @@ mod refusal;
 mod scanner;
 mod see;
 mod state;
-#[cfg(test)]
-mod tests;
 
 pub use after::{ReadToken, slice};
 pub use check::check_text;

@@ -10,8 +10,6 @@ mod parameters;
 mod part;
 mod reading;
 mod simple;
-#[cfg(test)]
-mod tests;
 mod text;
 mod value_words;
 mod values;

@@ -6,8 +6,6 @@ mod note;
 mod noting;
 mod script;
 mod stack;
-#[cfg(test)]
-mod tests;
 mod waiting;
 
 pub use cursor::{Cursor, Event, NotePlace};

@@ -1,5 +1,5 @@
 // Sentences by the kinds of their tokens.
-use crate::{Kind, Next, Reading};
+use ksh_syntax::{Kind, Next, Reading};
 use ksh_base::Memory;
 use std::alloc::Global;
 use std::test::Fail;

@@ -1,5 +1,5 @@
 //! Values, effects and faults by the rules of the language.
-use crate::{ArithFault, ArithRefused, NumFault, VarAnswer, VarAsk, eval_arith, parse_arith};
+use ksh_arith::{ArithFault, ArithRefused, NumFault, VarAnswer, VarAsk, eval_arith, parse_arith};
 use arith_tree::ArithPath;
 use ksh_base::{Memory, Text};
 use std::alloc::Global;

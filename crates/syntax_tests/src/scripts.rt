@@ -1,5 +1,5 @@
 // Texts and their first faults. What is expected comes from the grammar and its places, not from the program.
-use crate::{SyntaxRefused, check_text};
+use ksh_scan::{SyntaxRefused, check_text};
 use ksh_base::{Memory, Place, Text};
 use ksh_lexer::{SyntaxFault, SyntaxKind};
 use std::alloc::Global;

@@ -1,4 +1,4 @@
-use crate::{
+use ksh_lexer::{
     Body, BraceEnd, Descriptor, Form, HereDocument, LONGEST_TEXT, LexMode, Lexer, Operator,
     Redirection, SyntaxFault, SyntaxKind, Token, TokenKind, ansi_text, end_word, is_quoted,
 };

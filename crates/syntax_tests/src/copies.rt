@@ -1,9 +1,8 @@
 //! Copies of small trees.
-use crate::redirect::{Redirect, RedirectForm, RedirectTo};
-use crate::redirect_copies::copy_redirects;
-use crate::tree::{List, Param, ParamForm, ParamOf, Piece, Script, Word};
-use crate::word_copies::copy_word;
-use crate::{Digit, SubstKind};
+use ksh_ast::{
+    Digit, List, Param, ParamForm, ParamOf, Piece, Redirect, RedirectForm, RedirectTo, Script,
+    SubstKind, Word, copy_redirects, copy_word,
+};
 use ksh_base::{Items, Memory, Shared, Text};
 use std::alloc::Global;
 use std::test::Fail;
@@ -113,5 +112,12 @@ fn a_script_is_shared(rt: HostRuntime) -> Result<(), Fail> {
     let list = Shared::new(alloc, Items::new(alloc))?;
     let copy = Script { list }.copy()?;
     assert!(rt; copy.list.get().as_slice().is_empty());
+    Ok(())
+}
+
+#[test]
+fn digits_are_read_or_refused(rt: HostRuntime) -> Result<(), Fail> {
+    assert!(rt; Digit::read(b'7').is_some_and(|digit| digit.copy().number() == 7));
+    assert!(rt; Digit::read(b'/').is_none() && Digit::read(b':').is_none());
     Ok(())
 }
