@@ -1,8 +1,9 @@
 -- What the program's words mean: a plan, or the first fault from the left.
-use Rattle.std.specs.Prelude.{◌≡◌, ℕ, ◌+◌, ◌-◌, ◌*◌, ◌^◌, ◌&&◌, Bool, false, nat_le, List, [], ◌∷◌, length, take, drop, Result, Ok, Err, if◌then◌else◌, codes}
+use Rattle.std.specs.Prelude.{◌≡◌, ℕ, ◌+◌, ◌-◌, ◌*◌, ◌^◌, ◌&&◌, Bool, true, false, nat_le, List, [], ◌∷◌, length, take, drop, Option, Some, None, is_some, Result, Ok, Err, if◌then◌else◌, codes}
 use Rattle.std.specs.Char.{is_ascii_digit}
 use Rattle.std.specs.List.{list_all}
 use Rattle.ksh_base.specs.Text.{same_numbers}
+use Rattle.ksh_base.specs.declared.words.Options.{Options}
 use Rattle.ksh_base.specs.declared.words.Plan.{Plan}
 use Rattle.ksh_base.specs.declared.words.ScriptFrom.{ScriptFrom}
 use Rattle.ksh_base.specs.declared.words.ScriptFrom.TheVariants.{File, Given, Generated}
@@ -50,41 +51,63 @@ Planned = Result Plan UsageFault
 abbrev pub fault : UsageKind → ℕ → Planned
 fault kind word = Err (record { kind = usage_number kind; word = word })
 
-abbrev pub planned : ℕ → ScriptFrom → List ℕ → List (List ℕ) → Planned
-planned budget script zero args = Ok (record { check = false; boxed = false; budget = budget; script = script; zero = zero; args = args })
+-- the budget that was asked for, else the one of a run without `--budget`
+abbrev pub budget_of : Option ℕ → ℕ
+budget_of None = default_budget
+budget_of (Some n) = n
+
+abbrev pub planned : Options → ScriptFrom → List ℕ → List (List ℕ) → Planned
+planned seen script zero args = Ok (record { check = seen.check; boxed = false; budget = budget_of seen.budget; script = script; zero = zero; args = args })
 
 -- after `-c` at that word: the text, then `$0`, then the arguments
-abbrev pub after_c : ℕ → ℕ → List (List ℕ) → Planned
-after_c budget at [] = fault NoArgument at
-after_c budget at (text ∷ []) = planned budget (Given text) (codes "kshtree") []
-after_c budget at (text ∷ zero ∷ args) = planned budget (Given text) zero args
+abbrev pub after_c : Options → ℕ → List (List ℕ) → Planned
+after_c seen at [] = fault NoArgument at
+after_c seen at (text ∷ []) = planned seen (Given text) (codes "kshtree") []
+after_c seen at (text ∷ zero ∷ args) = planned seen (Given text) zero args
 
 -- after `--` at that word: the file, which is `$0` too, then the arguments
-abbrev pub after_dashes : ℕ → ℕ → List (List ℕ) → Planned
-after_dashes budget at [] = fault NoArgument at
-after_dashes budget at (file ∷ args) = planned budget (File file) file args
+abbrev pub after_dashes : Options → ℕ → List (List ℕ) → Planned
+after_dashes seen at [] = fault NoArgument at
+after_dashes seen at (file ∷ args) = planned seen (File file) file args
 
--- the words from there on, the options before them being read
-abbrev pub script_plan : ℕ → ℕ → List (List ℕ) → Planned
-script_plan budget at [] = fault NoScript at
-script_plan budget at (word ∷ rest) =
-    if same_numbers word (codes "-c") then after_c budget at rest
-    else (if same_numbers word (codes "--") then after_dashes budget at rest
+-- that word, the first that is no option, and the words behind it
+abbrev pub script_plan : Options → ℕ → List ℕ → List (List ℕ) → Planned
+script_plan seen at word rest =
+    if same_numbers word (codes "-c") then after_c seen at rest
+    else (if same_numbers word (codes "--") then after_dashes seen at rest
     else (if begins_with_dash word then fault UnknownOption at
-    else planned budget (File word) word rest))
+    else planned seen (File word) word rest))
 
--- the words after a `--budget=`, which may not stand twice
-abbrev pub after_budget : ℕ → List (List ℕ) → Planned
-after_budget budget [] = script_plan budget 2 []
-after_budget budget (word ∷ rest) = if is_budget_word word then fault Repeated 2 else script_plan budget 2 (word ∷ rest)
+-- `--budget=` and this number behind the options that were read
+abbrev pub with_budget : Options → List ℕ → Result Options UsageKind
+with_budget seen number =
+    if is_some seen.budget then Err Repeated
+    else (if is_budget number then Ok (record { check = seen.check; budget = Some (written number) }) else Err BadNumber)
+
+-- the options with that of the word, or its fault; None where the word is no option
+abbrev pub read_option : Options → List ℕ → Option (Result Options UsageKind)
+read_option seen word =
+    if same_numbers word (codes "-n") then Some (if seen.check then Err Repeated else Ok (record { check = true; budget = seen.budget }))
+    else (if is_budget_word word then Some (with_budget seen (drop 9 word)) else None)
+
+-- what follows a word: the plan with its option, its fault, or the script's plan
+abbrev pub behind_option : (Options → Planned) → ℕ → Planned → Option (Result Options UsageKind) → Planned
+behind_option go at script (Some (Ok next)) = go next
+behind_option go at script (Some (Err kind)) = fault kind at
+behind_option go at script None = script
+
+-- the words from that one on, behind the options that were read
+abbrev pub options_plan : Options → ℕ → List (List ℕ) → Planned
+options_plan seen at [] = fault NoScript at
+options_plan seen at (word ∷ rest) = behind_option (λ next. options_plan next (at + 1) rest) at (script_plan seen at word rest) (read_option seen word)
 
 -- all the words
 abbrev pub words_plan : List (List ℕ) → Planned
-words_plan [] = script_plan default_budget 1 []
-words_plan (word ∷ rest) =
-    if is_budget_word word
-    then (if is_budget (drop 9 word) then after_budget (written (drop 9 word)) rest else fault BadNumber 1)
-    else script_plan default_budget 1 (word ∷ rest)
+words_plan words = options_plan (record { check = false; budget = None }) 1 words
+
+-- the place of the word behind the options, each of which is one word
+abbrev pub word_behind : Options → ℕ
+word_behind seen = 1 + (if seen.check then 1 else 0) + (if is_some seen.budget then 1 else 0)
 
 -- what a function answered is what the words mean, unless memory ran out
 abbrev pub AnswersPlan : Result Plan WordsRefused → Planned → Type 0

@@ -1,5 +1,5 @@
-ghost use Rattle.std.specs.Prelude.{◌≡◌, ℕ, ◌≤◌, ◌<◌, ◌↔◌, IfOk, drop, take, true, false, IsTrue, MatchOption, if◌then◌else◌, Option, Some, None, codes};
-ghost use Rattle.ksh_base.specs.Words.{AnswersPlan, IsKnown, words_plan, script_plan, after_c, after_dashes, after_budget, is_budget, is_budget_word, begins_with_dash, usage_number, written};
+ghost use Rattle.std.specs.Prelude.{◌≡◌, ℕ, ◌+◌, ◌≤◌, ◌<◌, ◌↔◌, IfOk, IfSome, drop, take, true, false, IsTrue, MatchOption, if◌then◌else◌, Option, Some, None, codes};
+ghost use Rattle.ksh_base.specs.Words.{AnswersPlan, IsKnown, words_plan, script_plan, after_c, after_dashes, read_option, with_budget, budget_of, word_behind, is_budget, is_budget_word, begins_with_dash, usage_number, written};
 
 use crate::memory::Memory;
 use crate::text::Text;
@@ -98,59 +98,100 @@ impl From<Memory> for WordsRefused {
     }
 }
 
-/// The plan of `[--budget=N] -c TEXT [zero [args]]`, `[--budget=N] FILE [args]` or
-/// `[--budget=N] -- FILE [args]`, or the first fault from the left. An option that stands a second
-/// time is that fault whatever its number is.
+/// The options that were read.
+#[derive(Clone, Copy)]
+struct Options {
+    /// `-n` stood.
+    check: bool,
+    /// The budget of `--budget=N`, where that stood.
+    budget: Option<u64>,
+}
+
+/// The plan of `[-n] [--budget=N]`, in either order, and then `-c TEXT [zero [args]]`,
+/// `FILE [args]` or `-- FILE [args]`, or the first fault from the left. With `-n` the script is to be
+/// checked and not run. An option that stands a second time is that fault whatever its number is.
 pub fn read_words(alloc: Global, words: &[Text]) -> Result<Plan, WordsRefused>
     ensures means { AnswersPlan result (words_plan words.now) }
     ensures known { IfOk result (λ p. IsKnown p.script) }
 {
-    let Some((first, rest)) = words.split_first() else {
-        return read_script(alloc, DEFAULT_BUDGET, 1, words);
+    let mut seen = Options {
+        check: false,
+        budget: None,
     };
-    let Some(number) = budget_option(first.bytes()) else {
-        return read_script(alloc, DEFAULT_BUDGET, 1, words);
-    };
-    let Some(budget) = read_budget(number) else {
-        return Err(usage(UsageKind::BadNumber, 1));
-    };
-    read_after_budget(alloc, budget, rest)
-}
-
-fn read_after_budget(alloc: Global, budget: u64, words: &[Text]) -> Result<Plan, WordsRefused>
-    ensures means { AnswersPlan result (after_budget budget words.now) }
-    ensures known { IfOk result (λ p. IsKnown p.script) }
-{
-    if let Some((first, _)) = words.split_first() {
-        if budget_option(first.bytes()).is_some() {
-            return Err(usage(UsageKind::Repeated, 2));
+    let mut at = 1u32;
+    let mut rest = words;
+    while let Some((word, more)) = rest.split_first() {
+        match read_option(seen, word.bytes()) {
+            None => return read_script(alloc, seen, at, word, more),
+            Some(Err(kind)) => return Err(usage(kind, at)),
+            Some(Ok(next)) => seen = next,
         }
+        at += 1;
+        rest = more;
     }
-    read_script(alloc, budget, 2, words)
+    Err(usage(UsageKind::NoScript, at))
 }
 
-/// Reads the words from the script's on, the first of which is the word `at`.
-fn read_script(alloc: Global, budget: u64, at: u32, words: &[Text]) -> Result<Plan, WordsRefused>
-    ensures means { AnswersPlan result (script_plan budget at words.now) }
+/// The options with that of the word, or its fault; None where the word is no option.
+fn read_option(seen: Options, word: &[u8]) -> Option<Result<Options, UsageKind>>
+    ensures means { result ≡ read_option seen word.now }
+    ensures one { IfSome result (λ r. IfOk r (λ next. word_behind next ≡ word_behind seen + 1)) }
+{
+    if word == b"-n".as_slice() {
+        if seen.check {
+            return Some(Err(UsageKind::Repeated));
+        }
+        return Some(Ok(Options {
+            check: true,
+            budget: seen.budget,
+        }));
+    }
+    let number = budget_option(word)?;
+    Some(with_budget(seen, number))
+}
+
+/// The options with the budget that the digits write, or the fault.
+fn with_budget(seen: Options, number: &[u8]) -> Result<Options, UsageKind>
+    ensures means { result ≡ with_budget seen number.now }
+    ensures one { IfOk result (λ next. word_behind next ≡ word_behind seen + 1) }
+{
+    if seen.budget.is_some() {
+        return Err(UsageKind::Repeated);
+    }
+    match read_budget(number) {
+        Some(budget) => Ok(Options {
+            check: seen.check,
+            budget: Some(budget),
+        }),
+        None => Err(UsageKind::BadNumber),
+    }
+}
+
+/// Reads the word `at`, the first that is no option, and those behind it.
+fn read_script(
+    alloc: Global,
+    seen: Options,
+    at: u32,
+    first: &Text,
+    rest: &[Text],
+) -> Result<Plan, WordsRefused>
+    ensures means { AnswersPlan result (script_plan seen at first.now rest.now) }
     ensures known { IfOk result (λ p. IsKnown p.script) }
 {
-    let Some((first, rest)) = words.split_first() else {
-        return Err(usage(UsageKind::NoScript, at));
-    };
     let word = first.bytes();
     if word == b"-c".as_slice() {
-        read_given(alloc, budget, at, rest)
+        read_given(alloc, seen, at, rest)
     } else if word == b"--".as_slice() {
-        read_named(alloc, budget, at, rest)
+        read_named(alloc, seen, at, rest)
     } else if begins_with_dash(word) {
         Err(usage(UsageKind::UnknownOption, at))
     } else {
-        Ok(file_plan(alloc, budget, first, rest)?)
+        Ok(file_plan(alloc, seen, first, rest)?)
     }
 }
 
-fn read_given(alloc: Global, budget: u64, at: u32, words: &[Text]) -> Result<Plan, WordsRefused>
-    ensures means { AnswersPlan result (after_c budget at words.now) }
+fn read_given(alloc: Global, seen: Options, at: u32, words: &[Text]) -> Result<Plan, WordsRefused>
+    ensures means { AnswersPlan result (after_c seen at words.now) }
     ensures known { IfOk result (λ p. IsKnown p.script) }
 {
     let Some((text, rest)) = words.split_first() else {
@@ -159,43 +200,53 @@ fn read_given(alloc: Global, budget: u64, at: u32, words: &[Text]) -> Result<Pla
     let script = ScriptFrom::Given(text.copy(alloc)?);
     let Some((zero, args)) = rest.split_first() else {
         let zero = Text::of(alloc, b"kshtree")?;
-        return Ok(make_plan(budget, script, zero, Items::new(alloc)));
+        return Ok(make_plan(seen, script, zero, Items::new(alloc)));
     };
     let zero = zero.copy(alloc)?;
     let args = copy_texts(alloc, args)?;
-    Ok(make_plan(budget, script, zero, args))
+    Ok(make_plan(seen, script, zero, args))
 }
 
-fn read_named(alloc: Global, budget: u64, at: u32, words: &[Text]) -> Result<Plan, WordsRefused>
-    ensures means { AnswersPlan result (after_dashes budget at words.now) }
+fn read_named(alloc: Global, seen: Options, at: u32, words: &[Text]) -> Result<Plan, WordsRefused>
+    ensures means { AnswersPlan result (after_dashes seen at words.now) }
     ensures known { IfOk result (λ p. IsKnown p.script) }
 {
     let Some((file, args)) = words.split_first() else {
         return Err(usage(UsageKind::NoArgument, at));
     };
-    Ok(file_plan(alloc, budget, file, args)?)
+    Ok(file_plan(alloc, seen, file, args)?)
 }
 
-fn file_plan(alloc: Global, budget: u64, file: &Text, args: &[Text]) -> Result<Plan, Memory>
-    ensures means { IfOk result (λ p. p ≡ record { check = false; boxed = false; budget = budget; script = ScriptFrom.File file.now; zero = file.now; args = args.now }) }
+fn file_plan(alloc: Global, seen: Options, file: &Text, args: &[Text]) -> Result<Plan, Memory>
+    ensures means { IfOk result (λ p. p ≡ record { check = seen.check; boxed = false; budget = budget_of seen.budget; script = ScriptFrom.File file.now; zero = file.now; args = args.now }) }
     ensures known { IfOk result (λ p. IsKnown p.script) }
 {
     let script = ScriptFrom::File(file.copy(alloc)?);
     let zero = file.copy(alloc)?;
     let args = copy_texts(alloc, args)?;
-    Ok(make_plan(budget, script, zero, args))
+    Ok(make_plan(seen, script, zero, args))
 }
 
-fn make_plan(budget: u64, script: ScriptFrom, zero: Text, args: Items<Text>) -> Plan
-    ensures { result ≡ record { check = false; boxed = false; budget = budget; script = script; zero = zero; args = args } }
+fn make_plan(seen: Options, script: ScriptFrom, zero: Text, args: Items<Text>) -> Plan
+    ensures { result ≡ record { check = seen.check; boxed = false; budget = budget_of seen.budget; script = script; zero = zero; args = args } }
 {
     Plan {
-        check: false,
+        check: seen.check,
         boxed: false,
-        budget,
+        budget: budget_of(seen.budget),
         script,
         zero,
         args,
+    }
+}
+
+/// The budget that was asked for, else the one of a run without `--budget`.
+fn budget_of(asked: Option<u64>) -> u64
+    ensures { result ≡ budget_of asked }
+{
+    match asked {
+        Some(budget) => budget,
+        None => DEFAULT_BUDGET,
     }
 }
 
@@ -271,12 +322,18 @@ mod tests {
     #[test]
     fn faults_are_the_first_from_the_left(rt: HostRuntime) -> Result<(), Fail> {
         let alloc = rt.alloc();
-        let rows: [(&[&[u8]], UsageKind, u32); 19] = [
+        let rows: [(&[&[u8]], UsageKind, u32); 25] = [
             (&[], UsageKind::NoScript, 1),
             (&[b"--budget=7"], UsageKind::NoScript, 2),
             (&[b"-q"], UsageKind::UnknownOption, 1),
             (&[b"-"], UsageKind::UnknownOption, 1),
-            (&[b"-n", b"f"], UsageKind::UnknownOption, 1),
+            (&[b"-nf", b"f"], UsageKind::UnknownOption, 1),
+            (&[b"-n"], UsageKind::NoScript, 2),
+            (&[b"-n", b"-q"], UsageKind::UnknownOption, 2),
+            (&[b"-n", b"-n", b"f"], UsageKind::Repeated, 2),
+            (&[b"-n", b"--budget=5", b"-n", b"f"], UsageKind::Repeated, 3),
+            (&[b"-n", b"--budget=x", b"f"], UsageKind::BadNumber, 2),
+            (&[b"-n", b"-c"], UsageKind::NoArgument, 2),
             (&[b"--box", b"f"], UsageKind::UnknownOption, 1),
             (&[b"--gen", b"5"], UsageKind::UnknownOption, 1),
             (&[b"--budget"], UsageKind::UnknownOption, 1),
@@ -286,7 +343,11 @@ mod tests {
                 UsageKind::Repeated,
                 2,
             ),
-            (&[b"--budget=1", b"--budget=", b"f"], UsageKind::Repeated, 2),
+            (
+                &[b"--budget=1", b"--budget=x", b"f"],
+                UsageKind::Repeated,
+                2,
+            ),
             (&[b"--budget=0", b"f"], UsageKind::BadNumber, 1),
             (&[b"--budget=", b"-q"], UsageKind::BadNumber, 1),
             (&[b"--budget=1x", b"f"], UsageKind::BadNumber, 1),
@@ -386,6 +447,31 @@ mod tests {
             ) {
                 assert!(rt; last == want);
             }
+        }
+        Ok(())
+    }
+
+    #[test]
+    fn options_stand_in_any_order(rt: HostRuntime) -> Result<(), Fail> {
+        let alloc = rt.alloc();
+        let rows: [(&[&[u8]], bool, u64, usize); 5] = [
+            (&[b"-n", b"--", b"f", b"a"], true, DEFAULT_BUDGET, 1),
+            (&[b"-n", b"--budget=7", b"f", b"-n"], true, 7, 1),
+            (
+                &[b"--budget=7", b"-n", b"-c", b"print a", b"z", b"b"],
+                true,
+                7,
+                1,
+            ),
+            (&[b"f", b"-n"], false, DEFAULT_BUDGET, 1),
+            (&[b"-c", b"-n"], false, DEFAULT_BUDGET, 0),
+        ];
+        for (words, check, budget, args) in rows {
+            let words = texts(alloc, words)?;
+            let plan = read_words(alloc, words.as_slice())?;
+            assert!(rt; plan.check == check && !plan.boxed);
+            assert_eq!(rt; plan.budget, budget);
+            assert_eq!(rt; plan.args.len(), args);
         }
         Ok(())
     }
