@@ -1,6 +1,7 @@
-//! Runs scripts: the one call that the program makes.
+//! Runs scripts and checks them: the calls that the program makes.
 #![tactic(auto)]
 
+mod check;
 mod ended;
 mod refuse;
 mod run;
@@ -8,5 +9,6 @@ mod run;
 mod tests;
 mod texts;
 
+pub use check::{Checked, check_script};
 pub use ended::{Ended, Why};
 pub use run::{MOST_READ, run_shell};
