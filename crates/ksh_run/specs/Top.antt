@@ -111,6 +111,10 @@ module _ {Po A : Type 0} (sees : Po → Seen Start) where
   abbrev pub Refuses : Why → List ℕ → ℕ → Ended Po A → Type 0
   Refuses why line status e = ((e.why ≡ why) × (e.status ≡ status) × HasRoot e.root (IsRefused line status)) ⊎ IsLost e.why e.status e.root
 
+  -- checked alone, and without a fault
+  abbrev pub Passes : Ended Po A → Type 0
+  Passes e = (e.why ≡ Meant) × (e.status ≡ 0) × HasRoot e.root IsUnasked
+
   -- how a run of the list ends
   abbrev pub EndsList : ℕ → List Item → Why → ℕ → ShellEnd Po A → Type 0
   EndsList budget list Meant status e = (e.stop ≡ stop.Meant) × (e.status ≡ status) × RunTold (record { state = root_state budget; body = list }) (sees e.port).done e.stop e.status
@@ -131,7 +135,7 @@ module _ {Po A : Type 0} (sees : Po → Seen Start) where
   -- how it ends from a text that is checked alone: it has no fault, or is refused with its first, or memory ran out
   abbrev pub EndsCheck : List ℕ → Ended Po A → Type 0
   EndsCheck text e =
-      (scan.IsText text × (e.why ≡ Meant) × (e.status ≡ 0) × HasRoot e.root IsUnasked)
+      (scan.IsText text × Passes e)
       ⊎ (((f : SyntaxFault) × IsFaulty true text f × (e.why ≡ Syntax f) × (e.status ≡ 2) × HasRoot e.root (IsRefused (syntax_line f) 2))
       ⊎ IsLost e.why e.status e.root)
 

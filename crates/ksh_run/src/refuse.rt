@@ -1,8 +1,8 @@
 // Ends of a root before its list began.
 ghost use Rattle.std.specs.Prelude.{◌≡◌, [], true, false};
 ghost use Rattle.ksh_run.specs.Texts.{syntax_line, usage_line};
-ghost use Rattle.ksh_run.specs.Top.{HasRoot, IsFresh, IsLost, IsRoot, IsUnasked, Refuses};
-ghost use Rattle.ksh_run.specs.declared.ended.Why.TheVariants.{Meant, Syntax, Usage};
+ghost use Rattle.ksh_run.specs.Top.{IsFresh, IsLost, IsRoot, Passes, Refuses};
+ghost use Rattle.ksh_run.specs.declared.ended.Why.TheVariants.{Syntax, Usage};
 ghost use Rattle.kernel_ask.specs.Seen.{acted, ended};
 ghost use Rattle.kernel_ask.specs.declared.ask.Answer.{Answer};
 ghost use Rattle.ksh_meaning.specs.Output.{write};
@@ -67,7 +67,7 @@ pub fn pass<Po: Port<Start>, P: Spawner, A: Album<Po>>(
 ) -> Ended<Po, A>
     requires fresh { IsFresh (Po.sees port) }
     requires album { ForTold (A.list album) (λ ends. ends ≡ []) }
-    ensures passes { (result.why ≡ Meant) × (result.status ≡ 0) × HasRoot result.root (IsUnasked Po.sees) }
+    ensures passes { Passes Po.sees result }
     ensures root { ForTold result.root (IsRoot Po.sees A.list P.faults (from (Po.sees port))) }
 {
     Ended {

@@ -91,7 +91,12 @@ fn no_bytes(rt: &impl AllocGlobal) -> BytesSource {
 }
 
 // Checks the script of words that have `-n`, and tells its fault.
-fn check_over<S: Source>(alloc: Global, errors: Stderr, words: &[Text], mut source: S) -> u8 {
+fn check_over<S: Source + Drop>(
+    alloc: Global,
+    errors: Stderr,
+    words: &[Text],
+    mut source: S,
+) -> u8 {
     match check_script(alloc, words, &mut source) {
         Ok(Checked::Fine) => 0,
         Ok(Checked::Refused { status, text, .. }) => {

@@ -1,0 +1,72 @@
+-- How a run ends from its words, by what it does with the script's text.
+use Rattle.std.proofs.Common.{◌≡◌, ℕ, ◌⊎◌, inl, inr, List, Option, Some, None, Result, Ok, refl, Bool, true, false}
+use Rattle.ksh_base.specs.Words.{words_plan}
+use Rattle.ksh_base.specs.declared.words.Plan.{Plan}
+use Rattle.kernel_ask.specs.Seen.{Seen}
+use Rattle.ksh_parser.specs.Grammar.{IsScript}
+use Rattle.ksh_run.specs.Script.{IsText}
+use Rattle.ksh_run.specs.Top.{EndsBoth, EndsBy, EndsList, EndsPlan, HasRoot, IsLost}
+use Rattle.ksh_run.specs.declared.ended.Ended.{Ended}
+use Rattle.ksh_run.specs.declared.ended.Why.{Why}
+use Rattle.ksh_run.specs.declared.ended.Why.TheVariants.{Meant, Usage, Syntax, SourceFault, Spent, Memory}
+use Rattle.ksh_script.specs.declared.tree.Item.{Item}
+use Rattle.shell_family.specs.Told.{ForTold}
+use Rattle.shell_state.specs.declared.start.Start.{Start}
+use Rattle.shell_thread.specs.declared.album.ShellEnd.{ShellEnd}
+
+module _ {Po A : Type 0} (sees : Po → Seen Start) where
+  has_weaker : (P Q : ShellEnd Po A → Type 0) (root : Option (ShellEnd Po A)) → ((e : ShellEnd Po A) → P e → Q e) → HasRoot sees root P → HasRoot sees root Q
+  has_weaker P Q None f h = h
+  has_weaker P Q (Some e) f h = f e h
+
+  has_told : (P Q : ShellEnd Po A → Type 0) (root : Option (ShellEnd Po A)) → ((e : ShellEnd Po A) → P e → Q e) → HasRoot sees root P → ForTold root Q
+  has_told P Q None f h = absurd h
+  has_told P Q (Some e) f h = f e h
+
+  -- memory ran out before anything was asked
+  by_lost : (words : List (List ℕ)) (left : Option (List ℕ)) (before now : ℕ) (why : Why) (status : ℕ) (root : Option (ShellEnd Po A)) → IsLost sees why status root
+      → EndsBy sees words left before now why status root
+  by_lost words left before now why status root h = rw h.0 (h.1, has_told _ _ root (λ e l. inl l) h.2)
+
+  -- the list was run
+  by_list : (words : List (List ℕ)) (plan : Plan) (left : Option (List ℕ)) (before now : ℕ) (text : List ℕ) (list : List Item) (why : Why) (status : ℕ) (e : ShellEnd Po A)
+      → words_plan words ≡ Ok plan → now ≡ before → IsText plan.script left text → plan.check ≡ false → IsScript text list → EndsList sees plan.budget list why status e
+      → EndsBy sees words left before now why status (Some e)
+  by_list words plan left before now text list Meant status e planned kept is_text check script l =
+      inl (l.0, l.1, record { list = list; has = record { plan = plan; planned = planned; kept = kept; text = text; is_text = is_text; so = (check, script, l.2) } })
+  by_list words plan left before now text list Spent status e planned kept is_text check script l =
+      (l.0, (l.1, record { list = list; has = record { plan = plan; planned = planned; kept = kept; text = text; is_text = is_text; so = (check, script, l.2) } }))
+  by_list words plan left before now text list Memory status e planned kept is_text check script l =
+      (l.0, inr (l.1, record { list = list; has = record { plan = plan; planned = planned; kept = kept; text = text; is_text = is_text; so = (check, script, l.2) } }))
+  by_list words plan left before now text list (Usage f) status e planned kept is_text check script l = absurd l
+  by_list words plan left before now text list (Syntax f) status e planned kept is_text check script l = absurd l
+  by_list words plan left before now text list SourceFault status e planned kept is_text check script l = absurd l
+
+  by_run : (words : List (List ℕ)) (plan : Plan) (left : Option (List ℕ)) (before now : ℕ) (text : List ℕ) (why : Why) (status : ℕ) (root : Option (ShellEnd Po A))
+      → words_plan words ≡ Ok plan → now ≡ before → IsText plan.script left text → plan.check ≡ false
+      → HasRoot sees root (λ r. (list : List Item) × IsScript text list × EndsList sees plan.budget list why status r) → EndsBy sees words left before now why status root
+  by_run words plan left before now text why status None planned kept is_text check h = absurd h
+  by_run words plan left before now text why status (Some e) planned kept is_text check h =
+      by_list words plan left before now text h.0 why status e planned kept is_text check h.1 h.2
+
+  -- the text was run or checked alone
+  by_both : (check : Bool) (words : List (List ℕ)) (plan : Plan) (left : Option (List ℕ)) (before now : ℕ) (text : List ℕ) (e : Ended Po A)
+      → words_plan words ≡ Ok plan → now ≡ before → IsText plan.script left text → plan.check ≡ check → EndsBoth sees check plan.budget text e
+      → EndsBy sees words left before now e.why e.status e.root
+  by_both true words plan left before now text e planned kept is_text check (inl h) =
+      rw h.1.0 (has_weaker _ _ e.root
+          (λ r u. inr (h.1.1, u, record { plan = plan; planned = planned; kept = kept; text = text; is_text = is_text; so = (check, h.0) })) h.1.2)
+  by_both true words plan left before now text e planned kept is_text check (inr (inl h)) =
+      rw h.2 (record { plan = plan; planned = planned; kept = kept; text = text; is_text = is_text; so = rw check h.1 }, h.3, h.4)
+  by_both true words plan left before now text e planned kept is_text check (inr (inr h)) = by_lost words left before now e.why e.status e.root h
+  by_both false words plan left before now text e planned kept is_text check (inl h) = by_run words plan left before now text e.why e.status e.root planned kept is_text check h
+  by_both false words plan left before now text e planned kept is_text check (inr (inl h)) =
+      rw h.2 (record { plan = plan; planned = planned; kept = kept; text = text; is_text = is_text; so = rw check h.1 }, h.3, h.4)
+  by_both false words plan left before now text e planned kept is_text check (inr (inr h)) = by_lost words left before now e.why e.status e.root h
+
+  -- how it ends from the plan of the words
+  pub by_plan : (words : List (List ℕ)) (plan : Plan) (left : Option (List ℕ)) (before now : ℕ) (e : Ended Po A) → words_plan words ≡ Ok plan → EndsPlan sees plan left before now e
+      → EndsBy sees words left before now e.why e.status e.root
+  by_plan words plan left before now e planned (inl h) = by_both plan.check words plan left before now h.1.0 e planned h.0 h.1.1 refl h.1.2
+  by_plan words plan left before now e planned (inr (inl h)) = rw h.2 (record { plan = plan; planned = planned; file = h.0; failed = h.1 }, h.3, h.4)
+  by_plan words plan left before now e planned (inr (inr h)) = by_lost words left before now e.why e.status e.root h
