@@ -5,6 +5,9 @@ use Rattle.ksh_base.specs.declared.words.Plan.{Plan}
 use Rattle.kernel_ask.specs.Seen.{Seen}
 use Rattle.ksh_parser.specs.Grammar.{IsScript}
 use Rattle.ksh_run.specs.Script.{IsText}
+use Rattle.ksh_run.specs.Checks.{ChecksBy, ChecksPlan, ChecksText, RefusesBy, RefusesText}
+use Rattle.ksh_run.specs.declared.check.Checked.{Checked}
+use Rattle.ksh_run.specs.declared.check.Checked.TheVariants.{Fine, Refused}
 use Rattle.ksh_run.specs.Top.{EndsBoth, EndsBy, EndsList, EndsPlan, HasRoot, IsLost}
 use Rattle.ksh_run.specs.declared.ended.Ended.{Ended}
 use Rattle.ksh_run.specs.declared.ended.Why.{Why}
@@ -55,7 +58,7 @@ module _ {Po A : Type 0} (sees : Po → Seen Start) where
       → EndsBy sees words left before now e.why e.status e.root
   by_both true words plan left before now text e planned kept is_text check (inl h) =
       rw h.1.0 (has_weaker _ _ e.root
-          (λ r u. inr (h.1.1, u, record { plan = plan; planned = planned; kept = kept; text = text; is_text = is_text; so = (check, h.0) })) h.1.2)
+      (λ r u. inr (h.1.1, u, record { plan = plan; planned = planned; kept = kept; text = text; is_text = is_text; so = (check, h.0) })) h.1.2)
   by_both true words plan left before now text e planned kept is_text check (inr (inl h)) =
       rw h.2 (record { plan = plan; planned = planned; kept = kept; text = text; is_text = is_text; so = rw check h.1 }, h.3, h.4)
   by_both true words plan left before now text e planned kept is_text check (inr (inr h)) = by_lost words left before now e.why e.status e.root h
@@ -70,3 +73,25 @@ module _ {Po A : Type 0} (sees : Po → Seen Start) where
   by_plan words plan left before now e planned (inl h) = by_both plan.check words plan left before now h.1.0 e planned h.0 h.1.1 refl h.1.2
   by_plan words plan left before now e planned (inr (inl h)) = rw h.2 (record { plan = plan; planned = planned; file = h.0; failed = h.1 }, h.3, h.4)
   by_plan words plan left before now e planned (inr (inr h)) = by_lost words left before now e.why e.status e.root h
+
+-- what a check says of a text that was read
+refused_by : (words : List (List ℕ)) (plan : Plan) (left : Option (List ℕ)) (before now : ℕ) (text : List ℕ) (status : ℕ) (why : Why) (line : List ℕ)
+    → words_plan words ≡ Ok plan → now ≡ before → IsText plan.script left text → RefusesText text status why line → RefusesBy words left before now status why line
+refused_by words plan left before now text status (Syntax f) line planned kept is_text h =
+    (record { plan = plan; planned = planned; kept = kept; text = text; is_text = is_text; so = h.0 }, h.1, h.2)
+refused_by words plan left before now text status (Usage f) line planned kept is_text h = absurd h
+refused_by words plan left before now text status SourceFault line planned kept is_text h = absurd h
+refused_by words plan left before now text status Meant line planned kept is_text h = absurd h
+refused_by words plan left before now text status Spent line planned kept is_text h = absurd h
+refused_by words plan left before now text status Memory line planned kept is_text h = absurd h
+
+checked_text : (words : List (List ℕ)) (plan : Plan) (left : Option (List ℕ)) (before now : ℕ) (text : List ℕ) (checked : Checked)
+    → words_plan words ≡ Ok plan → now ≡ before → IsText plan.script left text → ChecksText text checked → ChecksBy words left before now checked
+checked_text words plan left before now text Fine planned kept is_text h = record { plan = plan; planned = planned; kept = kept; text = text; is_text = is_text; so = h }
+checked_text words plan left before now text (Refused status why line) planned kept is_text h = refused_by words plan left before now text status why line planned kept is_text h
+
+-- what a check says of the words, from what it says of their plan
+pub checked_plan : (words : List (List ℕ)) (plan : Plan) (left : Option (List ℕ)) (before now : ℕ) (checked : Checked) → words_plan words ≡ Ok plan → ChecksPlan plan left before now checked
+    → ChecksBy words left before now checked
+checked_plan words plan left before now checked planned (inl h) = checked_text words plan left before now h.1.0 checked planned h.0 h.1.1 h.1.2
+checked_plan words plan left before now checked planned (inr h) = rw h.2 (record { plan = plan; planned = planned; file = h.0; failed = h.1 }, refl, refl)

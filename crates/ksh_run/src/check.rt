@@ -2,7 +2,10 @@
 ghost use Rattle.std.specs.Prelude.{◌≡◌, [], IfOk};
 ghost use Rattle.ksh_base.specs.Words.{IsKnown};
 ghost use Rattle.ksh_run.specs.Checks.{ChecksBy, ChecksPlan, ChecksText};
+ghost use Rattle.ksh_run.specs.Texts.{source_line, syntax_line, usage_line};
 ghost use Rattle.ksh_run.specs.Top.{EndsCheck, IsFresh, IsRoot};
+ghost use Rattle.ksh_run.specs.declared.check.Checked.TheVariants.{Refused};
+ghost use Rattle.ksh_run.specs.declared.ended.Why.TheVariants.{SourceFault, Syntax, Usage};
 ghost use Rattle.shell_family.specs.Told.{ForTold, from};
 
 use crate::ended::{Ended, Why};
@@ -10,7 +13,8 @@ use crate::refuse::{lose, pass, refuse_text};
 use crate::run::script_text;
 use crate::texts::{source_text, syntax_text, usage_text};
 use kernel_ask::Port;
-use ksh_base::{Memory, Plan, ReadRefused, Source, Text, WordsRefused, read_words};
+use ksh_base::{Memory, Plan, ReadRefused, Source, Text, UsageFault, WordsRefused, read_words};
+use ksh_lexer::SyntaxFault;
 use ksh_scan::{SyntaxRefused, check_text};
 use shell_state::Start;
 use shell_thread::{Album, Spawner};
@@ -39,13 +43,47 @@ pub fn check_script<S: Source>(
 {
     match read_words(alloc, words) {
         Ok(plan) => check_plan(alloc, plan, source),
-        Err(WordsRefused::Usage(fault)) => Ok(Checked::Refused {
-            status: 2,
-            why: Why::Usage(fault),
-            text: usage_text(alloc, fault)?,
-        }),
+        Err(WordsRefused::Usage(fault)) => misused(alloc, fault),
         Err(WordsRefused::Memory) => Err(Memory),
     }
+}
+
+// The words have this fault.
+fn misused(alloc: Global, fault: UsageFault) -> Result<Checked, Memory>
+    ensures { IfOk result (λ c. c ≡ Refused 2 (Usage fault) (usage_line fault)) }
+{
+    let text = usage_text(alloc, fault)?;
+    let why = Why::Usage(fault);
+    Ok(Checked::Refused {
+        status: 2,
+        why,
+        text,
+    })
+}
+
+// A read failed.
+fn unread(alloc: Global) -> Result<Checked, Memory>
+    ensures { IfOk result (λ c. c ≡ Refused 122 SourceFault source_line) }
+{
+    let text = source_text(alloc)?;
+    Ok(Checked::Refused {
+        status: 122,
+        why: Why::SourceFault,
+        text,
+    })
+}
+
+// The text has this fault.
+fn faulty(alloc: Global, fault: SyntaxFault) -> Result<Checked, Memory>
+    ensures { IfOk result (λ c. c ≡ Refused 2 (Syntax fault) (syntax_line fault)) }
+{
+    let text = syntax_text(alloc, fault)?;
+    let why = Why::Syntax(fault);
+    Ok(Checked::Refused {
+        status: 2,
+        why,
+        text,
+    })
 }
 
 // Reads the script and checks it.
@@ -55,11 +93,7 @@ fn check_plan<S: Source>(alloc: Global, plan: Plan, source: &mut S) -> Result<Ch
 {
     match script_text(alloc, source, plan.script) {
         Ok(text) => check_bytes(alloc, text.bytes()),
-        Err(ReadRefused::Failed) => Ok(Checked::Refused {
-            status: 122,
-            why: Why::SourceFault,
-            text: source_text(alloc)?,
-        }),
+        Err(ReadRefused::Failed) => unread(alloc),
         Err(ReadRefused::Memory) => Err(Memory),
     }
 }
@@ -70,11 +104,7 @@ fn check_bytes(alloc: Global, text: &[u8]) -> Result<Checked, Memory>
 {
     match check_text(alloc, text) {
         Ok(()) => Ok(Checked::Fine),
-        Err(SyntaxRefused::Fault(fault)) => Ok(Checked::Refused {
-            status: 2,
-            why: Why::Syntax(fault),
-            text: syntax_text(alloc, fault)?,
-        }),
+        Err(SyntaxRefused::Fault(fault)) => faulty(alloc, fault),
         Err(SyntaxRefused::Memory) => Err(Memory),
     }
 }
