@@ -1,7 +1,9 @@
 -- How a run ends from its words, by what it does with the script's text.
-use Rattle.std.proofs.Common.{◌≡◌, ℕ, ◌⊎◌, inl, inr, List, Option, Some, None, Result, Ok, refl, Bool, true, false}
+use Rattle.std.proofs.Common.{◌≡◌, ℕ, ◌⊎◌, inl, inr, List, Option, Some, None, Result, Ok, Err, refl, Bool, true, false}
 use Rattle.ksh_base.specs.Words.{words_plan}
 use Rattle.ksh_base.specs.declared.words.Plan.{Plan}
+use Rattle.ksh_base.specs.declared.words.UsageFault.{UsageFault}
+use Rattle.ksh_run.specs.Texts.{source_line, usage_line}
 use Rattle.kernel_ask.specs.Seen.{Seen}
 use Rattle.ksh_parser.specs.Grammar.{IsScript}
 use Rattle.ksh_run.specs.Script.{IsText}
@@ -95,3 +97,43 @@ pub checked_plan : (words : List (List ℕ)) (plan : Plan) (left : Option (List 
     → ChecksBy words left before now checked
 checked_plan words plan left before now checked planned (inl h) = checked_text words plan left before now h.1.0 checked planned h.0 h.1.1 h.1.2
 checked_plan words plan left before now checked planned (inr h) = rw h.2 (record { plan = plan; planned = planned; file = h.0; failed = h.1 }, refl, refl)
+
+-- a usage fault is told wherever the words have it
+same_usage : (words : List (List ℕ)) (status : ℕ) (g f : UsageFault) (line : List ℕ) → words_plan words ≡ Err g → words_plan words ≡ Err f → status ≡ 2 → line ≡ usage_line g
+    → Refused status (Usage g) line ≡ Refused 2 (Usage f) (usage_line f)
+same_usage words status g f line a b s l = cc
+
+no_plan : (words : List (List ℕ)) (plan : Plan) (f : UsageFault) → words_plan words ≡ Ok plan → words_plan words ≡ Err f → ⊥
+no_plan words plan f a b = cc
+
+usage_refused : (words : List (List ℕ)) (left : Option (List ℕ)) (before now status : ℕ) (why : Why) (line : List ℕ) (f : UsageFault) → RefusesBy words left before now status why line
+    → words_plan words ≡ Err f → Refused status why line ≡ Refused 2 (Usage f) (usage_line f)
+usage_refused words left before now status (Usage g) line f h e = same_usage words status g f line h.0 e h.2 h.3
+usage_refused words left before now status SourceFault line f h e = absurd (no_plan words h.0.plan f h.0.planned e)
+usage_refused words left before now status (Syntax g) line f h e = absurd (no_plan words h.0.plan f h.0.planned e)
+usage_refused words left before now status Meant line f h e = absurd h
+usage_refused words left before now status Spent line f h e = absurd h
+usage_refused words left before now status Memory line f h e = absurd h
+
+pub usage_told : (words : List (List ℕ)) (left : Option (List ℕ)) (before now : ℕ) (checked : Checked) (f : UsageFault) → ChecksBy words left before now checked → words_plan words ≡ Err f
+    → checked ≡ Refused 2 (Usage f) (usage_line f)
+usage_told words left before now Fine f h e = absurd (no_plan words h.plan f h.planned e)
+usage_told words left before now (Refused status why line) f h e = usage_refused words left before now status why line f h e
+
+-- a failed read is told wherever the source's count changed
+same_source : (status : ℕ) (line : List ℕ) → status ≡ 122 → line ≡ source_line → Refused status SourceFault line ≡ Refused 122 SourceFault source_line
+same_source status line s l = cc
+
+source_refused : (words : List (List ℕ)) (left : Option (List ℕ)) (before now status : ℕ) (why : Why) (line : List ℕ) → RefusesBy words left before now status why line → (now ≡ before → ⊥)
+    → Refused status why line ≡ Refused 122 SourceFault source_line
+source_refused words left before now status SourceFault line h rose = same_source status line h.1 h.2
+source_refused words left before now status (Usage f) line h rose = absurd (rose h.1)
+source_refused words left before now status (Syntax f) line h rose = absurd (rose h.0.kept)
+source_refused words left before now status Meant line h rose = absurd h
+source_refused words left before now status Spent line h rose = absurd h
+source_refused words left before now status Memory line h rose = absurd h
+
+pub source_told : (words : List (List ℕ)) (left : Option (List ℕ)) (before now : ℕ) (checked : Checked) → ChecksBy words left before now checked → (now ≡ before → ⊥)
+    → checked ≡ Refused 122 SourceFault source_line
+source_told words left before now Fine h rose = absurd (rose h.kept)
+source_told words left before now (Refused status why line) h rose = source_refused words left before now status why line h rose

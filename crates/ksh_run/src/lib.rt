@@ -3,6 +3,7 @@
 
 mod check;
 mod ended;
+mod laws;
 mod refuse;
 mod run;
 #[cfg(test)]
@@ -11,4 +12,5 @@ mod texts;
 
 pub use check::{Checked, check_script};
 pub use ended::{Ended, Why};
+pub use laws::causes_are_exact;
 pub use run::{MOST_READ, run_shell};
