@@ -1,5 +1,5 @@
 -- How a run ends from its words, by what it does with the script's text.
-use Rattle.std.proofs.Common.{◌≡◌, ℕ, ◌⊎◌, inl, inr, List, Option, Some, None, Result, Ok, Err, refl, Bool, true, false}
+use Rattle.std.proofs.Common.{◌≡◌, ℕ, ◌⊎◌, inl, inr, List, [], Option, Some, None, Result, Ok, Err, refl, Bool, true, false}
 use Rattle.ksh_base.specs.Words.{words_plan}
 use Rattle.ksh_base.specs.declared.words.Plan.{Plan}
 use Rattle.ksh_base.specs.declared.words.UsageFault.{UsageFault}
@@ -10,7 +10,7 @@ use Rattle.ksh_run.specs.Script.{IsText}
 use Rattle.ksh_run.specs.Checks.{ChecksBy, ChecksPlan, ChecksText, RefusesBy, RefusesText}
 use Rattle.ksh_run.specs.declared.check.Checked.{Checked}
 use Rattle.ksh_run.specs.declared.check.Checked.TheVariants.{Fine, Refused}
-use Rattle.ksh_run.specs.Top.{EndsBoth, EndsBy, EndsList, EndsPlan, HasRoot, IsLost}
+use Rattle.ksh_run.specs.Top.{EndsBoth, EndsBy, EndsList, EndsPlan, HasRoot, IsFine, IsLost, IsRun, IsUnasked, RanOut}
 use Rattle.ksh_run.specs.declared.ended.Ended.{Ended}
 use Rattle.ksh_run.specs.declared.ended.Why.{Why}
 use Rattle.ksh_run.specs.declared.ended.Why.TheVariants.{Meant, Usage, Syntax, SourceFault, Spent, Memory}
@@ -18,6 +18,7 @@ use Rattle.ksh_script.specs.declared.tree.Item.{Item}
 use Rattle.shell_family.specs.Told.{ForTold}
 use Rattle.shell_state.specs.declared.start.Start.{Start}
 use Rattle.shell_thread.specs.declared.album.ShellEnd.{ShellEnd}
+use Rattle.shell_thread.specs.declared.album.ShellStop.TheVariants as stop
 
 module _ {Po A : Type 0} (sees : Po → Seen Start) where
   has_weaker : (P Q : ShellEnd Po A → Type 0) (root : Option (ShellEnd Po A)) → ((e : ShellEnd Po A) → P e → Q e) → HasRoot sees root P → HasRoot sees root Q
@@ -31,7 +32,8 @@ module _ {Po A : Type 0} (sees : Po → Seen Start) where
   -- memory ran out before anything was asked
   by_lost : (words : List (List ℕ)) (left : Option (List ℕ)) (before now : ℕ) (why : Why) (status : ℕ) (root : Option (ShellEnd Po A)) → IsLost sees why status root
       → EndsBy sees words left before now why status root
-  by_lost words left before now why status root h = rw h.0 (h.1, has_told _ _ root (λ e l. inl l) h.2)
+  by_lost words left before now why status root h =
+      rw h.0 (h.1, has_told (λ e. (e.stop ≡ stop.Before) × ForTold (sees e.port).done (λ es. es ≡ [])) (RanOut sees words left before now) root (λ e l. inl l) h.2)
 
   -- the list was run
   by_list : (words : List (List ℕ)) (plan : Plan) (left : Option (List ℕ)) (before now : ℕ) (text : List ℕ) (list : List Item) (why : Why) (status : ℕ) (e : ShellEnd Po A)
@@ -59,7 +61,8 @@ module _ {Po A : Type 0} (sees : Po → Seen Start) where
       → words_plan words ≡ Ok plan → now ≡ before → IsText plan.script left text → plan.check ≡ check → EndsBoth sees check plan.budget text e
       → EndsBy sees words left before now e.why e.status e.root
   by_both true words plan left before now text e planned kept is_text check (inl h) =
-      rw h.1.0 (has_weaker _ _ e.root
+      rw h.1.0 (has_weaker (IsUnasked sees)
+      (λ r. ((r.stop ≡ stop.Meant) × (r.status ≡ e.status) × IsRun sees words left before now r) ⊎ ((e.status ≡ 0) × IsUnasked sees r × IsFine words left before now)) e.root
       (λ r u. inr (h.1.1, u, record { plan = plan; planned = planned; kept = kept; text = text; is_text = is_text; so = (check, h.0) })) h.1.2)
   by_both true words plan left before now text e planned kept is_text check (inr (inl h)) =
       rw h.2 (record { plan = plan; planned = planned; kept = kept; text = text; is_text = is_text; so = rw check h.1 }, h.3, h.4)
