@@ -1,9 +1,13 @@
 -- How a run ends from its words, by what it does with the script's text.
-use Rattle.std.proofs.Common.{◌≡◌, ℕ, ◌⊎◌, inl, inr, List, [], Option, Some, None, Result, Ok, Err, refl, Bool, true, false}
+use Rattle.std.proofs.Common.{◌≡◌, ℕ, ◌⊎◌, inl, inr, List, [], Option, Some, None, Result, Ok, Err, IfOk, refl, Bool, true, false}
 use Rattle.ksh_base.specs.Words.{words_plan}
 use Rattle.ksh_base.specs.declared.words.Plan.{Plan}
 use Rattle.ksh_base.specs.declared.words.UsageFault.{UsageFault}
-use Rattle.ksh_run.specs.Texts.{source_line, usage_line}
+use Rattle.ksh_lexer.specs.declared.fault.SyntaxFault.{SyntaxFault}
+use Rattle.ksh_scan.specs.Scan as scan
+use Rattle.ksh_scan.specs.declared.refusal.SyntaxRefused.{SyntaxRefused}
+use Rattle.ksh_scan.specs.declared.refusal.SyntaxRefused.TheVariants.{Fault}
+use Rattle.ksh_run.specs.Texts.{source_line, syntax_line, usage_line}
 use Rattle.kernel_ask.specs.Seen.{Seen}
 use Rattle.ksh_parser.specs.Grammar.{IsScript}
 use Rattle.ksh_run.specs.Script.{IsText}
@@ -100,6 +104,17 @@ pub checked_plan : (words : List (List ℕ)) (plan : Plan) (left : Option (List 
     → ChecksBy words left before now checked
 checked_plan words plan left before now checked planned (inl h) = checked_text words plan left before now h.1.0 checked planned h.0 h.1.1 h.1.2
 checked_plan words plan left before now checked planned (inr h) = rw h.2 (record { plan = plan; planned = planned; file = h.0; failed = h.1 }, refl, refl)
+
+pub checked_words : {E : Type 0} (words : List (List ℕ)) (plan : Plan) (left : Option (List ℕ)) (before now : ℕ) (r : Result Checked E) → words_plan words ≡ Ok plan → IfOk r (ChecksPlan plan left before now)
+    → IfOk r (ChecksBy words left before now)
+checked_words words plan left before now (Ok c) planned h = checked_plan words plan left before now c planned h
+checked_words words plan left before now (Err e) planned h = tt
+
+-- what a check says of a text with that fault
+pub faulty_text : {E : Type 0} (text : List ℕ) (f : SyntaxFault) (x : SyntaxRefused) (r : Result Checked E) → x ≡ Fault f → scan.IsRefused text x
+    → IfOk r (λ c. c ≡ Refused 2 (Syntax f) (syntax_line f)) → IfOk r (ChecksText text)
+faulty_text text f x (Ok c) is h e = rw e (rw is at h, refl, refl)
+faulty_text text f x (Err m) is h e = tt
 
 -- a usage fault is told wherever the words have it
 same_usage : (words : List (List ℕ)) (status : ℕ) (g f : UsageFault) (line : List ℕ) → words_plan words ≡ Err g → words_plan words ≡ Err f → status ≡ 2 → line ≡ usage_line g
