@@ -14,7 +14,7 @@ use Rattle.ksh_run.specs.Script.{IsText}
 use Rattle.ksh_run.specs.Checks.{ChecksBy, ChecksPlan, ChecksText, RefusesBy, RefusesText}
 use Rattle.ksh_run.specs.declared.check.Checked.{Checked}
 use Rattle.ksh_run.specs.declared.check.Checked.TheVariants.{Fine, Refused}
-use Rattle.ksh_run.specs.Top.{EndsBoth, EndsBy, EndsList, EndsPlan, HasRoot, IsFine, IsLost, IsRun, IsUnasked, RanOut}
+use Rattle.ksh_run.specs.Top.{EndsBoth, EndsBy, EndsCheck, EndsList, EndsPlan, HasRoot, IsFine, IsLost, IsRun, IsUnasked, RanOut, Refuses}
 use Rattle.ksh_run.specs.declared.ended.Ended.{Ended}
 use Rattle.ksh_run.specs.declared.ended.Why.{Why}
 use Rattle.ksh_run.specs.declared.ended.Why.TheVariants.{Meant, Usage, Syntax, SourceFault, Spent, Memory}
@@ -82,6 +82,11 @@ module _ {Po A : Type 0} (sees : Po → Seen Start) where
   by_plan words plan left before now e planned (inl h) = by_both plan.check words plan left before now h.1.0 e planned h.0 h.1.1 refl h.1.2
   by_plan words plan left before now e planned (inr (inl h)) = rw h.2 (record { plan = plan; planned = planned; file = h.0; failed = h.1 }, h.3, h.4)
   by_plan words plan left before now e planned (inr (inr h)) = by_lost words left before now e.why e.status e.root h
+
+  -- a text that is checked alone and has that fault
+  pub refused_check : (text : List ℕ) (f : SyntaxFault) (x : SyntaxRefused) (e : Ended Po A) → x ≡ Fault f → scan.IsRefused text x → Refuses sees (Syntax f) (syntax_line f) 2 e → EndsCheck sees text e
+  refused_check text f x e is h (inl r) = inr (inl (f, rw is at h, r.0, r.1, r.2))
+  refused_check text f x e is h (inr l) = inr (inr l)
 
 -- what a check says of a text that was read
 refused_by : (words : List (List ℕ)) (plan : Plan) (left : Option (List ℕ)) (before now : ℕ) (text : List ℕ) (status : ℕ) (why : Why) (line : List ℕ)
