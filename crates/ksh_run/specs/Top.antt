@@ -7,11 +7,11 @@ use Rattle.ksh_base.specs.Source.{Rose}
 use Rattle.ksh_base.specs.Words.{words_plan}
 use Rattle.ksh_base.specs.declared.words.Plan.{Plan}
 use Rattle.ksh_meaning.specs.Output.{write}
-use Rattle.ksh_parser.specs.declared.fault.SyntaxFault.{SyntaxFault}
-use Rattle.ksh_parser.specs.Fault.{not_in_profile}
+use Rattle.ksh_lexer.specs.declared.fault.SyntaxFault.{SyntaxFault}
 use Rattle.ksh_parser.specs.Grammar.{IsScript}
+use Rattle.ksh_scan.specs.Scan as scan
 use Rattle.ksh_run.specs.Script.{HasText, HasFailed, IsFile, IsText}
-use Rattle.ksh_run.specs.Texts.{usage_line, source_line, syntax_line}
+use Rattle.ksh_run.specs.Texts.{usage_line, source_line, syntax_line, not_of_the_form}
 use Rattle.ksh_run.specs.declared.ended.Ended.{Ended}
 use Rattle.ksh_run.specs.declared.ended.Why.{Why}
 use Rattle.ksh_run.specs.declared.ended.Why.TheVariants.{Meant, Usage, Syntax, SourceFault, Spent, Memory}
@@ -42,6 +42,15 @@ why_of stop.Meant = Meant
 why_of stop.Spent = Spent
 why_of _ = Memory
 
+-- a text that is refused, and its fault: with `-n` its first, else the one of a text that isn't of the form that is run
+abbrev pub IsFaulty : Bool → List ℕ → SyntaxFault → Type 0
+IsFaulty true text f = scan.HasFault text f
+IsFaulty false text f = ((list : List Item) → IsScript text list → ⊥) × (f ≡ not_of_the_form)
+
+-- the words have `-n` and no fault, and the text is a script
+abbrev pub IsFine : List (List ℕ) → Option (List ℕ) → ℕ → ℕ → Type 0
+IsFine words left before now = HasText words left before now (λ plan text. (plan.check ≡ true) × scan.IsText text)
+
 module _ {Po A : Type 0} (sees : Po → Seen Start) where
   -- the shell ended before its list began, and all that it asked was one Write of the text on handle 2
   pub record IsRefused (line : List ℕ) (status : ℕ) (e : ShellEnd Po A) : Type 0 where
@@ -49,10 +58,16 @@ module _ {Po A : Type 0} (sees : Po → Seen Start) where
     pub status_is : e.status ≡ status
     pub asked : ForTold (sees e.port).done (λ es. (answer : Answer) × (es ≡ record { ask = Asked (write 2 line); answer = answer } ∷ []))
 
-  -- the words have no fault, the text is a script, and the shell is a run of its list
+  -- the shell ended before its list began, with status 0, and asked nothing
+  pub record IsUnasked (e : ShellEnd Po A) : Type 0 where
+    pub stop : e.stop ≡ stop.Before
+    pub status_is : e.status ≡ 0
+    pub asked : ForTold (sees e.port).done (λ es. es ≡ [])
+
+  -- the words have no fault and no `-n`, the text is a script, and the shell is a run of its list
   pub record IsRun (words : List (List ℕ)) (left : Option (List ℕ)) (before now : ℕ) (e : ShellEnd Po A) : Type 0 where
     pub list : List Item
-    pub has : HasText words left before now (λ plan text. (IsScript text list) × RunTold (root_start plan list) (sees e.port).done e.stop e.status)
+    pub has : HasText words left before now (λ plan text. (plan.check ≡ false) × IsScript text list × RunTold (root_start plan list) (sees e.port).done e.stop e.status)
 
   -- memory ran out: before the list began and before anything was asked, or in a run of the list
   abbrev pub RanOut : List (List ℕ) → Option (List ℕ) → ℕ → ℕ → ShellEnd Po A → Type 0
@@ -71,9 +86,9 @@ module _ {Po A : Type 0} (sees : Po → Seen Start) where
   EndsBy words left before now SourceFault status root =
       HasFailed words before now (Rose before now) × (status ≡ 122) × HasRoot root (IsRefused source_line 122)
   EndsBy words left before now (Syntax f) status root =
-      HasText words left before now (λ plan text. ((list : List Item) → IsScript text list → ⊥) × (f ≡ not_in_profile)) × (status ≡ 2) × HasRoot root (IsRefused (syntax_line f) 2)
+      HasText words left before now (λ plan text. IsFaulty plan.check text f) × (status ≡ 2) × HasRoot root (IsRefused (syntax_line f) 2)
   EndsBy words left before now Meant status root =
-      HasRoot root (λ e. (e.stop ≡ stop.Meant) × (e.status ≡ status) × IsRun words left before now e)
+      HasRoot root (λ e. ((e.stop ≡ stop.Meant) × (e.status ≡ status) × IsRun words left before now e) ⊎ ((status ≡ 0) × IsUnasked e × IsFine words left before now))
   EndsBy words left before now Spent status root =
       (status ≡ 123) × HasRoot root (λ e. (e.stop ≡ stop.Spent) × IsRun words left before now e)
   EndsBy words left before now Memory status root =
@@ -96,6 +111,10 @@ module _ {Po A : Type 0} (sees : Po → Seen Start) where
   abbrev pub Refuses : Why → List ℕ → ℕ → Ended Po A → Type 0
   Refuses why line status e = ((e.why ≡ why) × (e.status ≡ status) × HasRoot e.root (IsRefused line status)) ⊎ IsLost e.why e.status e.root
 
+  -- checked alone, and without a fault
+  abbrev pub Passes : Ended Po A → Type 0
+  Passes e = (e.why ≡ Meant) × (e.status ≡ 0) × HasRoot e.root IsUnasked
+
   -- how a run of the list ends
   abbrev pub EndsList : ℕ → List Item → Why → ℕ → ShellEnd Po A → Type 0
   EndsList budget list Meant status e = (e.stop ≡ stop.Meant) × (e.status ≡ status) × RunTold (record { state = root_state budget; body = list }) (sees e.port).done e.stop e.status
@@ -110,12 +129,24 @@ module _ {Po A : Type 0} (sees : Po → Seen Start) where
   abbrev pub EndsText : ℕ → List ℕ → Ended Po A → Type 0
   EndsText budget text e =
       HasRoot e.root (λ r. (list : List Item) × IsScript text list × EndsList budget list e.why e.status r)
-      ⊎ (((f : SyntaxFault) × (f ≡ not_in_profile) × ((list : List Item) → IsScript text list → ⊥) × (e.why ≡ Syntax f) × (e.status ≡ 2) × HasRoot e.root (IsRefused (syntax_line f) 2))
+      ⊎ (((f : SyntaxFault) × IsFaulty false text f × (e.why ≡ Syntax f) × (e.status ≡ 2) × HasRoot e.root (IsRefused (syntax_line f) 2))
       ⊎ IsLost e.why e.status e.root)
+
+  -- how it ends from a text that is checked alone: it has no fault, or is refused with its first, or memory ran out
+  abbrev pub EndsCheck : List ℕ → Ended Po A → Type 0
+  EndsCheck text e =
+      (scan.IsText text × Passes e)
+      ⊎ (((f : SyntaxFault) × IsFaulty true text f × (e.why ≡ Syntax f) × (e.status ≡ 2) × HasRoot e.root (IsRefused (syntax_line f) 2))
+      ⊎ IsLost e.why e.status e.root)
+
+  -- how it ends from a plan's text
+  abbrev pub EndsBoth : Bool → ℕ → List ℕ → Ended Po A → Type 0
+  EndsBoth true budget text e = EndsCheck text e
+  EndsBoth false budget text e = EndsText budget text e
 
   -- how it ends from a plan
   abbrev pub EndsPlan : Plan → Option (List ℕ) → ℕ → ℕ → Ended Po A → Type 0
   EndsPlan plan left before now e =
-      ((now ≡ before) × ((text : List ℕ) × IsText plan.script left text × EndsText plan.budget text e))
+      ((now ≡ before) × ((text : List ℕ) × IsText plan.script left text × EndsBoth plan.check plan.budget text e))
       ⊎ ((IsFile plan.script × Rose before now × (e.why ≡ SourceFault) × (e.status ≡ 122) × HasRoot e.root (IsRefused source_line 122))
       ⊎ IsLost e.why e.status e.root)

@@ -1,11 +1,11 @@
 use ksh_base::UsageFault;
-use ksh_parser::SyntaxFault;
+use ksh_lexer::SyntaxFault;
 use shell_thread::ShellEnd;
 
 /// Why a run ended.
 #[derive(Clone, Copy, Debug, PartialEq, Eq)]
 pub enum Why {
-    /// The script ran to its end.
+    /// The script ran to its end, or was checked alone and has no fault.
     Meant,
     /// The words have this fault; status 2.
     Usage(UsageFault),

@@ -3,21 +3,23 @@ ghost use Rattle.std.specs.Prelude.{◌≡◌, [], None, IfOk, OnOk, IsErrOf};
 ghost use Rattle.ksh_base.specs.Source.{Rose};
 ghost use Rattle.ksh_base.specs.Words.{IsKnown};
 ghost use Rattle.ksh_run.specs.Script.{IsText, IsFile};
-ghost use Rattle.ksh_run.specs.Texts.{usage_line};
-ghost use Rattle.ksh_run.specs.Top.{EndsBy, EndsPlan, EndsRun, EndsText, IsFresh, IsRoot, Refuses, why_of};
-ghost use Rattle.ksh_run.specs.declared.ended.Why.TheVariants.{Memory, Usage};
+ghost use Rattle.ksh_run.specs.Texts.{not_of_the_form};
+ghost use Rattle.ksh_run.specs.Top.{EndsBoth, EndsBy, EndsPlan, EndsRun, EndsText, IsFresh, IsRoot, why_of};
+ghost use Rattle.ksh_run.specs.declared.ended.Why.TheVariants.{Memory};
 ghost use Rattle.shell_family.specs.Told.{ForTold, from};
 ghost use Rattle.ksh_base.specs.declared.source.ReadRefused.{ReadRefused};
 
+use crate::check::check_root;
 use crate::ended::{Ended, Why};
-use crate::refuse::{lose, refuse};
-use crate::texts::{source_text, syntax_text, usage_text};
+use crate::refuse::{lose, refuse, refuse_text, refuse_words};
+use crate::texts::source_text;
 use cmd_eval::run_job;
 use kernel_ask::{Port, World};
 use ksh_base::{
-    Plan, ReadRefused, ScriptFrom, ShellName, Source, Text, UsageFault, WordsRefused, read_script,
+    Place, Plan, ReadRefused, ScriptFrom, ShellName, Source, Text, WordsRefused, read_script,
     read_words,
 };
+use ksh_lexer::{SyntaxFault, SyntaxKind};
 use ksh_parser::{SyntaxRefused, parse_script};
 use ksh_script::List;
 use shell_family::Forked;
@@ -28,8 +30,8 @@ use std::alloc::Global;
 /// The bytes that are taken of a file at most: one more than a script may have.
 pub const MOST_READ: usize = 16_777_217;
 
-// The script's text. The source is read for a file alone.
-fn script_text<S: Source>(
+/// The script's text. The source is read for a file alone.
+pub fn script_text<S: Source>(
     alloc: Global,
     source: &mut S,
     script: ScriptFrom,
@@ -91,6 +93,16 @@ fn why_of(stop: ShellStop) -> Why
     }
 }
 
+// The one fault of a text that isn't of the form that is run.
+fn not_of_the_form() -> SyntaxFault
+    ensures { result ≡ not_of_the_form }
+{
+    SyntaxFault {
+        kind: SyntaxKind::NotInProfile,
+        place: Place { line: 1, byte: 0 },
+    }
+}
+
 // Runs the script that the text is, or refuses it.
 fn run_text<Po: Port<Start> + 'static, P: Spawner + 'static, A: Album<Po> + 'static>(
     alloc: Global,
@@ -107,15 +119,36 @@ fn run_text<Po: Port<Start> + 'static, P: Spawner + 'static, A: Album<Po> + 'sta
 {
     match parse_script(alloc, text) {
         Ok(list) => run_list(alloc, budget, list, port, spawner, album),
-        Err(SyntaxRefused::Fault(fault)) => match syntax_text(alloc, fault) {
-            Ok(line) => refuse(alloc, port, spawner, album, Why::Syntax(fault), 2, line),
-            Err(_) => lose(alloc, port, spawner, album),
-        },
+        Err(SyntaxRefused::Fault(_)) => {
+            refuse_text(alloc, not_of_the_form(), port, spawner, album)
+        }
         Err(SyntaxRefused::Memory) => lose(alloc, port, spawner, album),
     }
 }
 
-// Reads the script and runs it.
+// Checks the text alone, or runs the script that it is.
+fn run_or_check<Po: Port<Start> + 'static, P: Spawner + 'static, A: Album<Po> + 'static>(
+    alloc: Global,
+    check: bool,
+    budget: u64,
+    text: &[u8],
+    port: Po,
+    spawner: P,
+    album: A,
+) -> Ended<Po, A>
+    requires fresh { IsFresh (Po.sees port) }
+    requires album { ForTold (A.list album) (λ ends. ends ≡ []) }
+    ensures ends { EndsBoth Po.sees check budget text.now result }
+    ensures root { ForTold result.root (IsRoot Po.sees A.list P.faults (from (Po.sees port))) }
+{
+    if check {
+        check_root(alloc, text, port, spawner, album)
+    } else {
+        run_text(alloc, budget, text, port, spawner, album)
+    }
+}
+
+// Reads the script and runs it, or checks it alone.
 fn run_plan<S: Source, Po: Port<Start> + 'static, P: Spawner + 'static, A: Album<Po> + 'static>(
     alloc: Global,
     plan: Plan,
@@ -131,31 +164,20 @@ fn run_plan<S: Source, Po: Port<Start> + 'static, P: Spawner + 'static, A: Album
     ensures root { ForTold result.root (IsRoot Po.sees A.list P.faults (from (Po.sees port))) }
 {
     match script_text(alloc, source, plan.script) {
-        Ok(text) => run_text(alloc, plan.budget, text.bytes(), port, spawner, album),
+        Ok(text) => run_or_check(
+            alloc,
+            plan.check,
+            plan.budget,
+            text.bytes(),
+            port,
+            spawner,
+            album,
+        ),
         Err(ReadRefused::Failed) => match source_text(alloc) {
             Ok(line) => refuse(alloc, port, spawner, album, Why::SourceFault, 122, line),
             Err(_) => lose(alloc, port, spawner, album),
         },
         Err(ReadRefused::Memory) => lose(alloc, port, spawner, album),
-    }
-}
-
-// The words have a fault.
-fn refuse_words<Po: Port<Start>, P: Spawner, A: Album<Po>>(
-    alloc: Global,
-    fault: UsageFault,
-    port: Po,
-    spawner: P,
-    album: A,
-) -> Ended<Po, A>
-    requires fresh { IsFresh (Po.sees port) }
-    requires album { ForTold (A.list album) (λ ends. ends ≡ []) }
-    ensures refuses { Refuses Po.sees (Usage fault) (usage_line fault) 2 result }
-    ensures root { ForTold result.root (IsRoot Po.sees A.list P.faults (from (Po.sees port))) }
-{
-    match usage_text(alloc, fault) {
-        Ok(line) => refuse(alloc, port, spawner, album, Why::Usage(fault), 2, line),
-        Err(_) => lose(alloc, port, spawner, album),
     }
 }
 
@@ -177,7 +199,8 @@ fn no_root<Po, A>() -> Ended<Po, A>
 /// comes exactly where the words have that fault, `SourceFault` exactly where a read of this call
 /// failed, `Syntax` exactly where the text is no script, and each of them has written one line on
 /// handle 2; else the root is a run of the script's list, and `Meant` and `Spent` are the meaning's.
-/// Want of memory may come at each step.
+/// With `-n` the script is checked alone: `Syntax` comes with its first fault, and `Meant`, with the
+/// status 0, where it has none, and then nothing was asked. Want of memory may come at each step.
 pub fn run_shell<
     S: Source,
     W: World<Start> + Drop,

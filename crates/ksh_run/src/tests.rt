@@ -1,7 +1,8 @@
 // Runs over the world of lists.
-use crate::{Ended, Why, run_shell};
+use crate::{Checked, Ended, Why, check_script, run_shell};
 use kernel_ask::{Answer, Ask, Call, Entry, ListPort, ListWorld, Refusal};
-use ksh_base::{BytesSource, Memory, ShellName, Text};
+use ksh_base::{BytesSource, Memory, Place, ShellName, Text, UsageFault};
+use ksh_lexer::{SyntaxFault, SyntaxKind};
 use shell_state::Start;
 use shell_thread::{FewSpawner, NoAlbum, ShellEnd, ShellStop};
 use std::alloc::Global;
@@ -165,5 +166,92 @@ fn budgets_sources_and_threads(rt: HostRuntime) -> Result<(), Fail> {
         run(rt, &words, Vec::new(alloc), Vec::new(alloc), refused)?,
     )?;
     assert!(rt; t.why == Why::Meant && t.status == 254 && t.out.is_empty());
+    Ok(())
+}
+
+const CASE: &[u8] = b"case $x in a | b) print c;; esac\nf() { print <<E; }\n$(d)\nE\n";
+
+fn fault(kind: SyntaxKind, line: u32, byte: u32) -> Why {
+    let place = Place { line, byte };
+    Why::Syntax(SyntaxFault { kind, place })
+}
+
+#[test]
+fn checked_scripts_are_not_run(rt: HostRuntime) -> Result<(), Fail> {
+    for script in [b"print a".as_slice(), b"", CASE] {
+        let t = tell(rt, &[b"-n", b"-c", script], None)?;
+        assert!(rt; t.why == Why::Meant && t.status == 0 && t.asks == 0);
+        assert!(rt; t.stop == ShellStop::Before);
+    }
+    let t = tell(rt, &[b"--budget=1", b"-n", b"f"], None)?;
+    assert!(rt; t.why == Why::Meant && t.status == 0 && t.asks == 0);
+    let t = tell(rt, &[b"-n", b"-c", b"print a\nprint b;;"], None)?;
+    assert!(rt; t.why == fault(SyntaxKind::UnexpectedToken, 2, 15));
+    assert!(rt; t.status == 2 && t.asks == 1 && t.stop == ShellStop::Before);
+    let line = b"kshtree: syntax fault 1 at line 2, byte 15: UnexpectedToken\n|".as_slice();
+    assert!(rt; t.errors.bytes() == line && t.out.is_empty());
+    let t = tell(rt, &[b"-n", b"-n", b"f"], None)?;
+    assert!(rt; t.why == Why::Usage(UsageFault { kind: 3, word: 2 }) && t.status == 2);
+    assert!(rt; t.errors.bytes() == b"kshtree: usage fault 3 at word 2\n|".as_slice());
+    Ok(())
+}
+
+// What a check of the words over a source of these bytes says.
+fn check(alloc: Global, words: &[&[u8]], bytes: &[u8], fails: Vec<u64>) -> Result<Checked, Memory> {
+    let mut texts = Vec::new(alloc);
+    for word in words {
+        texts.push(Text::of(alloc, word)?)?;
+    }
+    let mut source = BytesSource::new(Text::of(alloc, bytes)?, fails);
+    check_script(alloc, texts.as_slice(), &mut source)
+}
+
+fn is_refused(checked: &Checked, want: u8, cause: Why, line: &[u8]) -> bool {
+    match checked {
+        Checked::Fine => false,
+        Checked::Refused { status, why, text } => {
+            *status == want && *why == cause && text.bytes() == line
+        }
+    }
+}
+
+#[test]
+fn checks_say_the_first_fault(rt: HostRuntime) -> Result<(), Fail> {
+    let alloc = rt.alloc();
+    for words in [[b"-n".as_slice(), b"f"], [b"--", b"f"]] {
+        let c = check(alloc, &words, CASE, Vec::new(alloc))?;
+        assert!(rt; matches!(c, Checked::Fine));
+        let c = check(alloc, &words, b"print a\n( b", Vec::new(alloc))?;
+        let why = fault(SyntaxKind::UnexpectedEnd, 2, 11);
+        let line = b"kshtree: syntax fault 2 at line 2, byte 11: UnexpectedEnd\n".as_slice();
+        assert!(rt; is_refused(&c, 2, why, line));
+        let mut fails = Vec::new(alloc);
+        fails.push(1u64)?;
+        let c = check(alloc, &words, b"print a", fails)?;
+        let line = b"kshtree: cannot read the script\n".as_slice();
+        assert!(rt; is_refused(&c, 122, Why::SourceFault, line));
+    }
+    let c = check(alloc, &[b"-n", b"-n", b"f"], b"(", Vec::new(alloc))?;
+    let why = Why::Usage(UsageFault { kind: 3, word: 2 });
+    assert!(rt; is_refused(&c, 2, why, b"kshtree: usage fault 3 at word 2\n"));
+    Ok(())
+}
+
+#[test]
+fn each_cut_is_a_script_or_has_a_fault(rt: HostRuntime) -> Result<(), Fail> {
+    let alloc = rt.alloc();
+    for end in 0..CASE.len() {
+        let cut = &CASE[..end];
+        let first = check(alloc, &[b"-c", cut], b"", Vec::new(alloc))?;
+        let again = check(alloc, &[b"-c", cut], b"", Vec::new(alloc))?;
+        let same = match (&first, &again) {
+            (Checked::Fine, Checked::Fine) => true,
+            (Checked::Refused { status, why, text }, again) => {
+                is_refused(again, *status, *why, text.bytes())
+            }
+            _ => false,
+        };
+        assert!(rt; same);
+    }
     Ok(())
 }

@@ -4,7 +4,7 @@ ghost use Rattle.ksh_run.specs.Texts.{usage_line, source_line, syntax_line};
 
 use itoa::Buffer;
 use ksh_base::{Memory, Text, UsageFault};
-use ksh_parser::SyntaxFault;
+use ksh_lexer::SyntaxFault;
 use std::alloc::Global;
 
 /// `kshtree: usage fault K at word N` and a newline.
