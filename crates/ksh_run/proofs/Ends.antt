@@ -1,5 +1,5 @@
 -- How runs end.
-use Rattle.std.proofs.Common.{◌≡◌, ℕ, ◌⊎◌, inl, inr, List, [], ◌∷◌, ◌++◌, Option, Some, None, refl, sym, ◌∙◌, ap, Bool}
+use Rattle.std.proofs.Common.{◌≡◌, ℕ, inl, inr, List, [], Option, Some, None, refl, ◌∙◌, ap}
 use Rattle.std.proofs.Common.{zero, suc, sum_by, All}
 use Rattle.std.proofs.lemmas.List.Elements.{All-nil}
 use Rattle.kernel_ask.specs.Seen.{Seen, more, acted, ended}

@@ -8,7 +8,7 @@ use Rattle.ksh_run.specs.Texts.{source_line, syntax_line, usage_line}
 use Rattle.ksh_run.specs.declared.check.Checked.{Checked}
 use Rattle.ksh_run.specs.declared.check.Checked.TheVariants.{Fine, Refused}
 use Rattle.ksh_run.specs.declared.ended.Why.{Why}
-use Rattle.ksh_run.specs.declared.ended.Why.TheVariants.{Meant, Usage, Syntax, SourceFault, Spent, Memory}
+use Rattle.ksh_run.specs.declared.ended.Why.TheVariants.{Usage, Syntax, SourceFault}
 use Rattle.ksh_scan.specs.Scan as scan
 
 -- of a text: it is a script, or this is its first fault

@@ -1,4 +1,3 @@
-use Rattle.std.proofs.Common.{rules, ◌≡◌}
 use Rattle.ksh_run.proofs.Ends.{lost_root}
 use Rattle.ksh_run.proofs.refuse.pass.Goals as goal
 

@@ -1,4 +1,4 @@
-use Rattle.std.proofs.Common.{rules, ◌≡◌, ◌∙◌, ap}
+use Rattle.std.proofs.Common.{◌∙◌, ap}
 use Rattle.kernel_ask.specs.Seen.{ended}
 use Rattle.ksh_meaning.specs.Output.{write}
 use Rattle.ksh_run.proofs.Ends.{refused_root}

@@ -1,4 +1,4 @@
-use Rattle.std.proofs.Common.{rules, ◌≡◌, inl, inr}
+use Rattle.std.proofs.Common.{inl}
 use Rattle.ksh_run.proofs.Ends.{ends_list}
 use Rattle.ksh_run.proofs.run.run_list.Goals as goal
 
