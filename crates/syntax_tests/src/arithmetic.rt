@@ -1,6 +1,6 @@
 //! Values, effects and faults by the rules of the language.
-use ksh_arith::{ArithFault, ArithRefused, NumFault, VarAnswer, VarAsk, eval_arith, parse_arith};
 use arith_tree::ArithPath;
+use ksh_arith::{ArithFault, ArithRefused, NumFault, VarAnswer, VarAsk, eval_arith, parse_arith};
 use ksh_base::{Memory, Text};
 use std::alloc::Global;
 use std::test::Fail;

@@ -1,8 +1,8 @@
 // What is heard of scripts. What is expected comes from the grammar and the places in the texts, not from the program.
-use script_notes::{Cursor, Event, Note, Notes, note_script};
 use ksh_base::{Memory, Text};
 use ksh_scan::{SyntaxRefused, check_text, slice};
 use ksh_syntax::{Kind, Mark};
+use script_notes::{Cursor, Event, Note, Notes, note_script};
 use std::alloc::Global;
 use std::test::Fail;
 use tree_parts::Moment;

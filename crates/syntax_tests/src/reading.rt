@@ -1,6 +1,6 @@
 // Sentences by the kinds of their tokens.
-use ksh_syntax::{Kind, Next, Reading};
 use ksh_base::Memory;
+use ksh_syntax::{Kind, Next, Reading};
 use std::alloc::Global;
 use std::test::Fail;
 

@@ -1,7 +1,7 @@
 // Texts and their first faults. What is expected comes from the grammar and its places, not from the program.
-use ksh_scan::{SyntaxRefused, check_text};
 use ksh_base::{Memory, Place, Text};
 use ksh_lexer::{SyntaxFault, SyntaxKind};
+use ksh_scan::{SyntaxRefused, check_text};
 use std::alloc::Global;
 use std::test::Fail;
 

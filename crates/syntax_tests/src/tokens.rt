@@ -1,8 +1,8 @@
+use ksh_base::{Place, Text};
 use ksh_lexer::{
     Body, BraceEnd, Descriptor, Form, HereDocument, LONGEST_TEXT, LexMode, Lexer, Operator,
     Redirection, SyntaxFault, SyntaxKind, Token, TokenKind, ansi_text, end_word, is_quoted,
 };
-use ksh_base::{Place, Text};
 use std::alloc::Global;
 use std::test::Fail;
 
