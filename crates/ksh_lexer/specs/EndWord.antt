@@ -18,6 +18,7 @@ unquoted within.Nothing (b ∷ bs) =
     if b == 39 then unquoted within.Single bs else
     if b == 34 then unquoted within.Double bs else
     if b == 92 then unquoted within.Backslash bs else
+    if b == 36 && is 34 (slice_get bs 0) then unquoted within.Nothing bs else
     if b == 36 && is 39 (slice_get bs 0) then unquoted within.Dollar bs else b ∷ unquoted within.Nothing bs
 unquoted within.Backslash (b ∷ bs) = if b == 10 then unquoted within.Nothing bs else b ∷ unquoted within.Nothing bs
 unquoted within.Single (b ∷ bs) = if b == 39 then unquoted within.Nothing bs else b ∷ unquoted within.Single bs

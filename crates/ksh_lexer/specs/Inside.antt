@@ -55,13 +55,14 @@ double_quote (mode.Quoted opening) = Take token.CloseQuote 1
 double_quote (mode.HereBody tabs expands) = Run
 double_quote _ = Take token.OpenQuote 1
 
--- `$((`, `$(`, `${`, `$'`, a name, a special parameter; else a `$` by itself
+-- `$((`, `$(`, `${`, `$'`, `$"`, a name, a special parameter; else a `$` by itself
 abbrev pub dollar : LexMode → Option ℕ → Option ℕ → Begins
 dollar m None third = Take token.Dollar 1
 dollar m (Some b) third =
     if b == 40 then (if is 40 third then Take token.OpenArithmetic 3 else Take token.OpenSubstitution 2) else
     if b == 123 then Take token.OpenParameter 2 else
     if b == 39 && quotes_singly m then Ansi else
+    if b == 34 && quotes_singly m then Take token.OpenQuote 2 else
     if starts_name b then Expand else
     if is_special b then Special else Take token.Dollar 1
 

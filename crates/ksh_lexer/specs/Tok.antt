@@ -122,9 +122,9 @@ is_key m text from = is_value m && (is 91 (slice_get text from) && is_assigned (
 
 abbrev pub word_ends : Option ℕ → Bool
 word_ends None = true
-word_ends (Some b) = ends_word b
+word_ends (Some b) = ends_word b || b == 96
 
--- plain bytes to the end of the word
+-- plain bytes to the end of the word, or to a backquote, of which the reader of tokens knows whether it goes on with the word
 abbrev pub bare : List ℕ → ℕ → ℕ → Answer
 bare text from end = if nat_lt from end && word_ends (slice_get text end) then token kinds.Bare from end else token kinds.Start from from
 

@@ -76,6 +76,7 @@ fn in_nothing(line: &mut Text, byte: u8, rest: &[u8]) -> Result<Within, Memory>
         b'\'' => return Ok(Within::Single),
         b'"' => return Ok(Within::Double),
         b'\\' => return Ok(Within::Backslash),
+        b'$' if rest.first() == Some(&b'"') => return Ok(Within::Nothing),
         b'$' if rest.first() == Some(&b'\'') => return Ok(Within::Dollar),
         _ => line.push(byte)?,
     }

@@ -188,7 +188,7 @@ fn word_ends(byte: Option<u8>) -> bool
     ensures { result ≡ word_ends byte }
 {
     match byte {
-        Some(byte) => ends_word(byte),
+        Some(byte) => ends_word(byte) || byte == b'`',
         None => true,
     }
 }

@@ -127,6 +127,7 @@ fn dollar(mode: LexMode, second: Option<u8>, third: Option<u8>) -> Begins
         (Some(b'('), _) => Begins::Take(TokenKind::OpenSubstitution, 2),
         (Some(b'{'), _) => Begins::Take(TokenKind::OpenParameter, 2),
         (Some(b'\''), _) if quotes_singly(mode) => Begins::Ansi,
+        (Some(b'"'), _) if quotes_singly(mode) => Begins::Take(TokenKind::OpenQuote, 2),
         (Some(byte), _) if starts_name(byte) => Begins::Expand,
         (Some(byte), _) if is_special(byte) => Begins::Special,
         _ => Begins::Take(TokenKind::Dollar, 1),

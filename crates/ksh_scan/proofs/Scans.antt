@@ -132,7 +132,7 @@ scans_on text left left' s s' marks r h step =
 pub scan_fault : (text : List ℕ) (left left' : Left) (s s' : State) (marks : List Mark) (r : SyntaxRefused) → Scanned text left s
     → ((text : List ℕ) (front : List Token) (events : List Event) → IsAt text front events left s → StepsOn text front events s left' s' marks (Err r)) → (left ≡ [] → ⊥) → IsRefused text r
 scan_fault text left left' s s' marks (Fault f) h step some =
-    first s h.front h.events h.size h.at.spelled (h.at.more some) (live h.front left h.events h.at.read) (step text h.front h.events h.at)
+    first s h.front h.events left h.size h.at.spelled (h.at.more some) (live h.front left h.events h.at.read) h.at.read (step text h.front h.events h.at)
 scan_fault text left left' s s' marks Memory h step some = tt
 
 pub stops : (front : List Token) (m : Mode) (s s' : State) (f : SyntaxFault) → IsOnly front m → Sees s m (Err f) s' → IsFaultBehind front s f

@@ -10,7 +10,8 @@ use Rattle.ksh_syntax.specs.declared.kind.Kind.{Kind}
 use Rattle.ksh_syntax.specs.declared.kind.Kind.TheVariants as kind
 use Rattle.ksh_syntax.specs.declared.kind.Mode.{Mode}
 use Rattle.ksh_syntax.specs.declared.part.Mark.{Mark}
-use Rattle.ksh_syntax.specs.Sentences.{Decides, Event, IsLive, IsLiveWithin, IsScript, Marked, MayCome, Tells, Token, Took, script, within_limit}
+use Rattle.ksh_syntax.specs.Sentences.{Decides, Event, HasRead, IsLive, IsLiveWithin, IsScript, Marked, MayCome, Tells, Token, Took, script, within_limit}
+use Rattle.ksh_syntax.specs.Steps.{Left}
 use Rattle.ksh_scan.specs.declared.opening.Opened.{Opened}
 use Rattle.ksh_scan.specs.declared.opening.Opened.TheVariants.{Substitution, Backquote}
 use Rattle.ksh_scan.specs.declared.opening.Opening.{Opening}
@@ -158,12 +159,12 @@ pub data IsFaultBehind (front : List Token) (s : State) (f : SyntaxFault) : Type
   of_text : (m : Mode) (s' : State) → IsOnly front m → Sees s m (Err f) s' → IsFaultBehind front s f
   of_token : (m : Mode) (n : Seen) (s' : State) → IsOnly front m → Sees s m (Ok n) s' → IsUnread front s' m n f → IsFaultBehind front s f
 
--- The first fault of a text: it is too long, or the text goes on, what was read before the fault can be completed, and what comes
--- then can't, or ends an arithmetic text that is no expression.
+-- The first fault of a text: it is too long, or the text goes on, what was read before the fault can be completed, with the events that
+-- the grammar tells of it, and what comes then can't, or ends an arithmetic text that is no expression.
 pub data HasFault (text : List ℕ) (f : SyntaxFault) : Type 0 where
   long : longest_text < length text → f ≡ too_long text → HasFault text f
-  first : (s : State) (front : List Token) (events : List Event) → length text ≤ longest_text → Spelled text s front events → IsOpen front → IsLive front
-      → IsFaultBehind front s f → HasFault text f
+  first : (s : State) (front : List Token) (events : List Event) (left : Left) → length text ≤ longest_text → Spelled text s front events → IsOpen front → IsLive front
+      → HasRead front left events → IsFaultBehind front s f → HasFault text f
 
 abbrev pub IsRefused : List ℕ → SyntaxRefused → Type 0
 IsRefused text (Fault f) = HasFault text f

@@ -1,5 +1,5 @@
 -- The token that a script's reader sees next, and what becomes of the state by it.
-use Rattle.std.specs.Prelude.{◌≡◌, ℕ, ◌≤◌, ◌-◌, length, take, drop, Bool, true, false, List, [], ◌∷◌, ◌++◌, Option, Some, None, Result, Ok, Err, if◌then◌else◌}
+use Rattle.std.specs.Prelude.{◌≡◌, ℕ, ◌≤◌, ◌-◌, ◌&&◌, length, take, drop, slice_get, Bool, true, false, not, List, [], ◌∷◌, ◌++◌, Option, Some, None, Result, Ok, Err, if◌then◌else◌}
 use Rattle.ksh_lexer.specs.declared.fault.SyntaxFault.{SyntaxFault}
 use Rattle.ksh_lexer.specs.declared.here.Body.{Body}
 use Rattle.ksh_lexer.specs.declared.kind.Token.{Token}
@@ -8,6 +8,7 @@ use Rattle.ksh_lexer.specs.declared.kind.TokenKind.TheVariants as token
 use Rattle.ksh_lexer.specs.declared.mode.LexMode.{LexMode}
 use Rattle.ksh_lexer.specs.declared.mode.LexMode.TheVariants as lex
 use Rattle.ksh_lexer.specs.declared.mode.BraceEnd.TheVariants as brace
+use Rattle.ksh_lexer.specs.Bytes.{is}
 use Rattle.ksh_lexer.specs.Awaited.{Lexing, Misses, Takes, missing}
 use Rattle.ksh_lexer.specs.Place.{fault_at}
 use Rattle.ksh_lexer.specs.Tok.{IsFault, Tok}
@@ -18,7 +19,7 @@ use Rattle.ksh_syntax.specs.declared.kind.Mode.{Mode}
 use Rattle.ksh_syntax.specs.declared.kind.Mode.TheVariants as mode
 use Rattle.ksh_scan.specs.declared.opening.Opening.{Opening}
 use Rattle.ksh_scan.specs.declared.see.Role.{Role}
-use Rattle.ksh_scan.specs.declared.see.Role.TheVariants.{Newline, End, Backquote, Own}
+use Rattle.ksh_scan.specs.declared.see.Role.TheVariants.{Newline, End, Backquote, Bare, Own}
 use Rattle.ksh_scan.specs.declared.see.Seen.{Seen}
 use Rattle.ksh_scan.specs.declared.state.Source.{Source}
 use Rattle.ksh_scan.specs.declared.state.State.{State}
@@ -82,6 +83,15 @@ backquote true between word t =
     if word then without_body kind.WordEnd (empty_token token.WordEnd t.from) else without_body kind.End t
 backquote false between word t = if between then without_body kind.Start (empty_token token.Start t.from) else without_body kind.Backquote t
 
+-- a backquote stands there and opens a substitution, which goes on with a word before it
+abbrev pub goes_on : State → ℕ → Bool
+goes_on s at = is 96 (slice_get (text_of s) at) && not (in_backquotes s.source.openings)
+
+-- plain bytes are a whole word, or a word of pieces begins with them
+abbrev pub bare_word : Bool → List ℕ → Mode → Token → Seen
+bare_word true text m t = without_body (kind_of text m (empty_token token.Start t.from)) (empty_token token.Start t.from)
+bare_word false text m t = without_body (kind_of text m t) t
+
 abbrev pub at_place : State → ℕ → State
 at_place s at = record s { source = record s.source { lexer = (s.source.lexer.0, at, s.source.lexer.2) } }
 
@@ -117,6 +127,7 @@ abbrev pub role_of : TokenKind → Role
 role_of token.Newline = Newline
 role_of token.End = End
 role_of token.Backquote = Backquote
+role_of token.Bare = Bare
 role_of _ = Own
 
 -- what is seen where the text's token is that one, behind which the state stands
@@ -126,6 +137,8 @@ SeesBy End m s t r s' = Ends (missing s.source.lexer.0 s.source.lexer.2) m s t r
 SeesBy Backquote m s t r s' =
     (r ≡ Ok (backquote (in_backquotes s.source.openings) (is_between m) (is_word m) t))
     × (s' ≡ at_place s (backquote (in_backquotes s.source.openings) (is_between m) (is_word m) t).token.to)
+SeesBy Bare m s t r s' =
+    (r ≡ Ok (bare_word (goes_on s t.to) (text_of s) m t)) × (s' ≡ at_place s (bare_word (goes_on s t.to) (text_of s) m t).token.to)
 SeesBy Own m s t r s' = (r ≡ Ok (without_body (kind_of (text_of s) m t) t)) × (s' ≡ s)
 
 -- what is seen next, read in that mode, and the state behind it; or the fault of the text or of a body that has no end

@@ -2,7 +2,7 @@
 ghost use Rattle.std.specs.Prelude.{◌≡◌, ◌≤◌, None, IfOk, length};
 ghost use Rattle.ksh_lexer.specs.Place.{longest_text};
 ghost use Rattle.ksh_scan.specs.Openings.{in_backquotes, innermost};
-ghost use Rattle.ksh_scan.specs.Seeing.{at_place, backquote, byte_of, empty_token, is_between, is_word, lex_mode, role_of, text_of, without_body, EndsBody, Ends, IsWithin, Sees, SeesBy, TakesBody};
+ghost use Rattle.ksh_scan.specs.Seeing.{at_place, backquote, bare_word, goes_on, byte_of, empty_token, is_between, is_word, lex_mode, role_of, text_of, without_body, EndsBody, Ends, IsWithin, Sees, SeesBy, TakesBody};
 ghost use Rattle.ksh_lexer.specs.Awaited.{missing};
 
 use crate::opening::{in_backquotes, innermost};
@@ -30,6 +30,8 @@ pub(crate) enum Role {
     End,
     /// What is open decides.
     Backquote,
+    /// A backquote behind it may go on with the word.
+    Bare,
     Own,
 }
 
@@ -40,6 +42,7 @@ fn role_of(token: TokenKind) -> Role
         TokenKind::Newline => Role::Newline,
         TokenKind::End => Role::End,
         TokenKind::Backquote => Role::Backquote,
+        TokenKind::Bare => Role::Bare,
         _ => Role::Own,
     }
 }
@@ -163,6 +166,7 @@ impl<'a> State<'a> {
             Role::Newline => self.take_body(Kind::NewlineBodies, Kind::Newline, token),
             Role::End => self.end(mode, token),
             Role::Backquote => Ok(self.backquote(mode, token)),
+            Role::Bare => Ok(self.bare(mode, token)),
             Role::Own => {
                 let kind = kind_of(self.source.lexer.text(), mode, token);
                 Ok(without_body(kind, token))
@@ -214,6 +218,26 @@ impl<'a> State<'a> {
                 self.take_body(Kind::BodyNext, Kind::BodyLast, token)
             }
         }
+    }
+
+    /// Plain bytes are a whole word, but where a backquote behind them begins a substitution.
+    fn bare(&mut self, mode: Mode, token: Token) -> Seen
+        requires { (token.from ≤ token.to) × (token.to ≤ length (text_of self.old)) }
+        ensures seen { result ≡ bare_word (goes_on self.old token.to) (text_of self.old) mode token }
+        ensures place { self.new ≡ at_place self.old result.token.to }
+        ensures token { (result.token.from ≤ result.token.to) × (result.token.to ≤ token.to) }
+        ensures body { result.body ≡ None }
+    {
+        let text = self.source.lexer.text();
+        let goes_on = text.get(token.to) == Some(&b'`')
+            && !in_backquotes(self.source.openings.as_slice());
+        let word = if goes_on {
+            empty_token(TokenKind::Start, token.from)
+        } else {
+            token
+        };
+        self.source.lexer.go_to(word.to);
+        without_body(kind_of(text, mode, word), word)
     }
 
     /// What a backquote is; it is read again where it is not the token.

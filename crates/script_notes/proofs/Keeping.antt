@@ -89,7 +89,7 @@ keeps_on text left left' s s' marks r line g g' h step is_line is_noted =
 pub keeps_fault : (text : List ℕ) (left left' : Left) (s s' : State) (marks : List Mark) (r : SyntaxRefused) (g : Noting) → Keeps text left s g
     → ((text : List ℕ) (front : List Token) (events : List Event) → IsAt text front events left s → StepsOn text front events s left' s' marks (Err r)) → (left ≡ [] → ⊥) → IsRefused text r
 keeps_fault text left left' s s' marks (Fault f) g h step some =
-    first s h.front h.events h.size (spelled text h.was_noted) (h.more some) (live h.front left h.events h.read) (step text h.front h.events (stands text left s g h))
+    first s h.front h.events left h.size (spelled text h.was_noted) (h.more some) (live h.front left h.events h.read) h.read (step text h.front h.events (stands text left s g h))
 keeps_fault text left left' s s' marks Memory g h step some = tt
 
 shallow : (front : List Token) (left : Left) (events : List Event) → left ≡ [] → HasRead front left events → IsShallow front events
