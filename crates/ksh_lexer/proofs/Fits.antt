@@ -91,15 +91,16 @@ expands_fits m b false false e f = refl
 
 dollar_fits : (m : LexMode) (second third : Option ℕ) → fits m second (dollar m second third) ≡ true
 dollar_fits m None third = refl
-dollar_fits m (Some b) third = go (b == 40) (is 40 third) (b == 123) (b == 39 && quotes_singly m)
+dollar_fits m (Some b) third = go (b == 40) (is 40 third) (b == 123) (b == 39 && quotes_singly m) (b == 34 && quotes_singly m)
   where
-    go : (t u v w : Bool) → fits m (Some b) (if t then (if u then Take kinds.OpenArithmetic 3 else Take kinds.OpenSubstitution 2) else if v then Take kinds.OpenParameter 2 else
-        if w then Ansi else if starts_name b then Expand else if is_special b then Special else Take kinds.Dollar 1) ≡ true
-    go true true v w = refl
-    go true false v w = refl
-    go false u true w = refl
-    go false u false true = refl
-    go false u false false = expands_fits m b (starts_name b) (is_special b) refl refl
+    go : (t u v w x : Bool) → fits m (Some b) (if t then (if u then Take kinds.OpenArithmetic 3 else Take kinds.OpenSubstitution 2) else if v then Take kinds.OpenParameter 2 else
+        if w then Ansi else if x then Take kinds.OpenQuote 2 else if starts_name b then Expand else if is_special b then Special else Take kinds.Dollar 1) ≡ true
+    go true true v w x = refl
+    go true false v w x = refl
+    go false u true w x = refl
+    go false u false true x = refl
+    go false u false false true = refl
+    go false u false false false = expands_fits m b (starts_name b) (is_special b) refl refl
 
 double_quote_fits : (m : LexMode) (second : Option ℕ) → fits m second (double_quote m) ≡ true
 double_quote_fits mode.Command second = refl
