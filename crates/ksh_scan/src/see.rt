@@ -220,6 +220,16 @@ impl<'a> State<'a> {
         }
     }
 
+    /// Whether a backquote stands there and opens a substitution.
+    fn goes_on(&self, at: usize) -> bool
+        ensures { result ≡ goes_on self.now at }
+    {
+        match self.source.lexer.text().get(at) {
+            Some(byte) => *byte == b'`' && !in_backquotes(self.source.openings.as_slice()),
+            None => false,
+        }
+    }
+
     /// Plain bytes are a whole word, but where a backquote behind them begins a substitution.
     fn bare(&mut self, mode: Mode, token: Token) -> Seen
         requires { (token.from ≤ token.to) × (token.to ≤ length (text_of self.old)) }
@@ -229,15 +239,13 @@ impl<'a> State<'a> {
         ensures body { result.body ≡ None }
     {
         let text = self.source.lexer.text();
-        let goes_on = text.get(token.to) == Some(&b'`')
-            && !in_backquotes(self.source.openings.as_slice());
-        let word = if goes_on {
-            empty_token(TokenKind::Start, token.from)
-        } else {
-            token
-        };
-        self.source.lexer.go_to(word.to);
-        without_body(kind_of(text, mode, word), word)
+        if self.goes_on(token.to) {
+            let start = empty_token(TokenKind::Start, token.from);
+            self.source.lexer.go_to(start.to);
+            return without_body(kind_of(text, mode, start), start);
+        }
+        self.source.lexer.go_to(token.to);
+        without_body(kind_of(text, mode, token), token)
     }
 
     /// What a backquote is; it is read again where it is not the token.
