@@ -1,6 +1,2 @@
-pub mod Complete
-pub mod Ends
-pub mod Pieces
-pub mod Runs
-pub mod Sound
-pub mod Spelled
+pub mod Following
+pub mod Building

@@ -1,6 +1,3 @@
-pub mod Fault
-pub mod Grammar
-pub mod Pieces
-pub mod Reading
-pub mod Tokens
-pub mod Words
+pub mod Causes
+pub mod Heard
+pub mod Tree

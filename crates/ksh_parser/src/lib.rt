@@ -1,11 +1,12 @@
-//! From a script's bytes to its tree, or to the fault that it has.
+//! From a script's text to its tree, or to its first fault.
+//!
+//! The scanner reads all tokens, up to the first with which no script goes on. Then a builder hears them one after another, the body
+//! of each here-document at its operator.
 #![tactic(auto)]
 
-mod fault;
-mod frames;
+mod build;
 mod parse;
-mod state;
-mod word;
+mod refused;
 
-pub use fault::{SyntaxFault, SyntaxKind, SyntaxRefused};
-pub use parse::{LONGEST_SCRIPT, one_tree, parse_script};
+pub use parse::parse_script;
+pub use refused::Unparsed;

@@ -9,7 +9,7 @@ use Rattle.ksh_scan.specs.declared.refusal.SyntaxRefused.{SyntaxRefused}
 use Rattle.ksh_scan.specs.declared.refusal.SyntaxRefused.TheVariants.{Fault}
 use Rattle.ksh_run.specs.Texts.{source_line, syntax_line, usage_line}
 use Rattle.kernel_ask.specs.Seen.{Seen}
-use Rattle.ksh_parser.specs.Grammar.{IsScript}
+use Rattle.ksh_program.specs.Program.{IsProgram}
 use Rattle.ksh_run.specs.Script.{IsText}
 use Rattle.ksh_run.specs.Checks.{ChecksBy, ChecksPlan, ChecksText, RefusesBy, RefusesText}
 use Rattle.ksh_run.specs.declared.check.Checked.{Checked}
@@ -17,7 +17,7 @@ use Rattle.ksh_run.specs.declared.check.Checked.TheVariants.{Fine, Refused}
 use Rattle.ksh_run.specs.Top.{EndsBoth, EndsBy, EndsCheck, EndsList, EndsPlan, HasRoot, IsFine, IsLost, IsRun, IsUnasked, RanOut, Refuses}
 use Rattle.ksh_run.specs.declared.ended.Ended.{Ended}
 use Rattle.ksh_run.specs.declared.ended.Why.{Why}
-use Rattle.ksh_run.specs.declared.ended.Why.TheVariants.{Meant, Usage, Syntax, SourceFault, Spent, Memory}
+use Rattle.ksh_run.specs.declared.ended.Why.TheVariants.{Meant, Usage, Syntax, NotBuilt, SourceFault, Spent, Memory}
 use Rattle.ksh_script.specs.declared.tree.Item.{Item}
 use Rattle.shell_family.specs.Told.{ForTold}
 use Rattle.shell_state.specs.declared.start.Start.{Start}
@@ -41,7 +41,7 @@ module _ {Po A : Type 0} (sees : Po → Seen Start) where
 
   -- the list was run
   by_list : (words : List (List ℕ)) (plan : Plan) (left : Option (List ℕ)) (before now : ℕ) (text : List ℕ) (list : List Item) (why : Why) (status : ℕ) (e : ShellEnd Po A)
-      → words_plan words ≡ Ok plan → now ≡ before → IsText plan.script left text → plan.check ≡ false → IsScript text list → EndsList sees plan.budget list why status e
+      → words_plan words ≡ Ok plan → now ≡ before → IsText plan.script left text → plan.check ≡ false → IsProgram text list → EndsList sees plan.budget list why status e
       → EndsBy sees words left before now why status (Some e)
   by_list words plan left before now text list Meant status e planned kept is_text check script l =
       inl (l.0, l.1, record { list = list; has = record { plan = plan; planned = planned; kept = kept; text = text; is_text = is_text; so = (check, script, l.2) } })
@@ -52,10 +52,11 @@ module _ {Po A : Type 0} (sees : Po → Seen Start) where
   by_list words plan left before now text list (Usage f) status e planned kept is_text check script l = absurd l
   by_list words plan left before now text list (Syntax f) status e planned kept is_text check script l = absurd l
   by_list words plan left before now text list SourceFault status e planned kept is_text check script l = absurd l
+  by_list words plan left before now text list NotBuilt status e planned kept is_text check script l = absurd l
 
   by_run : (words : List (List ℕ)) (plan : Plan) (left : Option (List ℕ)) (before now : ℕ) (text : List ℕ) (why : Why) (status : ℕ) (root : Option (ShellEnd Po A))
       → words_plan words ≡ Ok plan → now ≡ before → IsText plan.script left text → plan.check ≡ false
-      → HasRoot sees root (λ r. (list : List Item) × IsScript text list × EndsList sees plan.budget list why status r) → EndsBy sees words left before now why status root
+      → HasRoot sees root (λ r. (list : List Item) × IsProgram text list × EndsList sees plan.budget list why status r) → EndsBy sees words left before now why status root
   by_run words plan left before now text why status None planned kept is_text check h = absurd h
   by_run words plan left before now text why status (Some e) planned kept is_text check h =
       by_list words plan left before now text h.0 why status e planned kept is_text check h.1 h.2
@@ -69,12 +70,14 @@ module _ {Po A : Type 0} (sees : Po → Seen Start) where
       (λ r. ((r.stop ≡ stop.Meant) × (r.status ≡ e.status) × IsRun sees words left before now r) ⊎ ((e.status ≡ 0) × IsUnasked sees r × IsFine words left before now)) e.root
       (λ r u. inr (h.1.1, u, record { plan = plan; planned = planned; kept = kept; text = text; is_text = is_text; so = (check, h.0) })) h.1.2)
   by_both true words plan left before now text e planned kept is_text check (inr (inl h)) =
-      rw h.2 (record { plan = plan; planned = planned; kept = kept; text = text; is_text = is_text; so = rw check h.1 }, h.3, h.4)
+      rw h.2 (record { plan = plan; planned = planned; kept = kept; text = text; is_text = is_text; so = h.1 }, h.3, h.4)
   by_both true words plan left before now text e planned kept is_text check (inr (inr h)) = by_lost words left before now e.why e.status e.root h
   by_both false words plan left before now text e planned kept is_text check (inl h) = by_run words plan left before now text e.why e.status e.root planned kept is_text check h
   by_both false words plan left before now text e planned kept is_text check (inr (inl h)) =
-      rw h.2 (record { plan = plan; planned = planned; kept = kept; text = text; is_text = is_text; so = rw check h.1 }, h.3, h.4)
-  by_both false words plan left before now text e planned kept is_text check (inr (inr h)) = by_lost words left before now e.why e.status e.root h
+      rw h.2 (record { plan = plan; planned = planned; kept = kept; text = text; is_text = is_text; so = h.1 }, h.3, h.4)
+  by_both false words plan left before now text e planned kept is_text check (inr (inr (inl h))) =
+      rw h.1 (record { plan = plan; planned = planned; kept = kept; text = text; is_text = is_text; so = (check, h.0) }, h.2, h.3)
+  by_both false words plan left before now text e planned kept is_text check (inr (inr (inr h))) = by_lost words left before now e.why e.status e.root h
 
   -- how it ends from the plan of the words
   pub by_plan : (words : List (List ℕ)) (plan : Plan) (left : Option (List ℕ)) (before now : ℕ) (e : Ended Po A) → words_plan words ≡ Ok plan → EndsPlan sees plan left before now e
@@ -95,6 +98,7 @@ refused_by words plan left before now text status (Syntax f) line planned kept i
     (record { plan = plan; planned = planned; kept = kept; text = text; is_text = is_text; so = h.0 }, h.1, h.2)
 refused_by words plan left before now text status (Usage f) line planned kept is_text h = absurd h
 refused_by words plan left before now text status SourceFault line planned kept is_text h = absurd h
+refused_by words plan left before now text status NotBuilt line planned kept is_text h = absurd h
 refused_by words plan left before now text status Meant line planned kept is_text h = absurd h
 refused_by words plan left before now text status Spent line planned kept is_text h = absurd h
 refused_by words plan left before now text status Memory line planned kept is_text h = absurd h
@@ -135,6 +139,7 @@ usage_refused words left before now status (Usage g) line f h e = same_usage wor
 usage_refused words left before now status SourceFault line f h e = absurd (no_plan words h.0.plan f h.0.planned e)
 usage_refused words left before now status (Syntax g) line f h e = absurd (no_plan words h.0.plan f h.0.planned e)
 usage_refused words left before now status Meant line f h e = absurd h
+usage_refused words left before now status NotBuilt line f h e = absurd h
 usage_refused words left before now status Spent line f h e = absurd h
 usage_refused words left before now status Memory line f h e = absurd h
 
@@ -153,6 +158,7 @@ source_refused words left before now status SourceFault line h rose = same_sourc
 source_refused words left before now status (Usage f) line h rose = absurd (rose h.1)
 source_refused words left before now status (Syntax f) line h rose = absurd (rose h.0.kept)
 source_refused words left before now status Meant line h rose = absurd h
+source_refused words left before now status NotBuilt line h rose = absurd h
 source_refused words left before now status Spent line h rose = absurd h
 source_refused words left before now status Memory line h rose = absurd h
 

@@ -8,13 +8,14 @@ use Rattle.ksh_base.specs.Words.{words_plan}
 use Rattle.ksh_base.specs.declared.words.Plan.{Plan}
 use Rattle.ksh_meaning.specs.Output.{write}
 use Rattle.ksh_lexer.specs.declared.fault.SyntaxFault.{SyntaxFault}
-use Rattle.ksh_parser.specs.Grammar.{IsScript}
+use Rattle.ksh_parser.specs.Tree.{IsScriptText}
+use Rattle.ksh_program.specs.Program.{IsProgram}
 use Rattle.ksh_scan.specs.Scan as scan
 use Rattle.ksh_run.specs.Script.{HasText, HasFailed, IsFile, IsText}
-use Rattle.ksh_run.specs.Texts.{usage_line, source_line, syntax_line, not_of_the_form}
+use Rattle.ksh_run.specs.Texts.{not_built_line, source_line, syntax_line, usage_line}
 use Rattle.ksh_run.specs.declared.ended.Ended.{Ended}
 use Rattle.ksh_run.specs.declared.ended.Why.{Why}
-use Rattle.ksh_run.specs.declared.ended.Why.TheVariants.{Meant, Usage, Syntax, SourceFault, Spent, Memory}
+use Rattle.ksh_run.specs.declared.ended.Why.TheVariants.{Meant, Usage, Syntax, NotBuilt, SourceFault, Spent, Memory}
 use Rattle.ksh_script.specs.declared.tree.Item.{Item}
 use Rattle.shell_family.specs.Family.{Family}
 use Rattle.shell_family.specs.Meaning.{RunTold}
@@ -42,11 +43,6 @@ why_of stop.Meant = Meant
 why_of stop.Spent = Spent
 why_of _ = Memory
 
--- a text that is refused, and its fault: with `-n` its first, else the one of a text that isn't of the form that is run
-abbrev pub IsFaulty : Bool → List ℕ → SyntaxFault → Type 0
-IsFaulty true text f = scan.HasFault text f
-IsFaulty false text f = ((list : List Item) → IsScript text list → ⊥) × (f ≡ not_of_the_form)
-
 -- the words have `-n` and no fault, and the text is a script
 abbrev pub IsFine : List (List ℕ) → Option (List ℕ) → ℕ → ℕ → Type 0
 IsFine words left before now = HasText words left before now (λ plan text. (plan.check ≡ true) × scan.IsText text)
@@ -64,10 +60,10 @@ module _ {Po A : Type 0} (sees : Po → Seen Start) where
     pub status_is : e.status ≡ 0
     pub asked : ForTold (sees e.port).done (λ es. es ≡ [])
 
-  -- the words have no fault and no `-n`, the text is a script, and the shell is a run of its list
+  -- the words have no fault and no `-n`, the text is a script, and the shell is a run of its commands
   pub record IsRun (words : List (List ℕ)) (left : Option (List ℕ)) (before now : ℕ) (e : ShellEnd Po A) : Type 0 where
     pub list : List Item
-    pub has : HasText words left before now (λ plan text. (plan.check ≡ false) × IsScript text list × RunTold (root_start plan list) (sees e.port).done e.stop e.status)
+    pub has : HasText words left before now (λ plan text. (plan.check ≡ false) × IsProgram text list × RunTold (root_start plan list) (sees e.port).done e.stop e.status)
 
   -- memory ran out: before the list began and before anything was asked, or in a run of the list
   abbrev pub RanOut : List (List ℕ) → Option (List ℕ) → ℕ → ℕ → ShellEnd Po A → Type 0
@@ -86,7 +82,9 @@ module _ {Po A : Type 0} (sees : Po → Seen Start) where
   EndsBy words left before now SourceFault status root =
       HasFailed words before now (Rose before now) × (status ≡ 122) × HasRoot root (IsRefused source_line 122)
   EndsBy words left before now (Syntax f) status root =
-      HasText words left before now (λ plan text. IsFaulty plan.check text f) × (status ≡ 2) × HasRoot root (IsRefused (syntax_line f) 2)
+      HasText words left before now (λ plan text. scan.HasFault text f) × (status ≡ 2) × HasRoot root (IsRefused (syntax_line f) 2)
+  EndsBy words left before now NotBuilt status root =
+      HasText words left before now (λ plan text. (plan.check ≡ false) × IsScriptText text) × (status ≡ 1) × HasRoot root (IsRefused not_built_line 1)
   EndsBy words left before now Meant status root =
       HasRoot root (λ e. ((e.stop ≡ stop.Meant) × (e.status ≡ status) × IsRun words left before now e) ⊎ ((status ≡ 0) × IsUnasked e × IsFine words left before now))
   EndsBy words left before now Spent status root =
@@ -128,15 +126,16 @@ module _ {Po A : Type 0} (sees : Po → Seen Start) where
   -- how it ends from a text: a run of the tree, a refusal where there is none, or memory ran out
   abbrev pub EndsText : ℕ → List ℕ → Ended Po A → Type 0
   EndsText budget text e =
-      HasRoot e.root (λ r. (list : List Item) × IsScript text list × EndsList budget list e.why e.status r)
-      ⊎ (((f : SyntaxFault) × IsFaulty false text f × (e.why ≡ Syntax f) × (e.status ≡ 2) × HasRoot e.root (IsRefused (syntax_line f) 2))
-      ⊎ IsLost e.why e.status e.root)
+      HasRoot e.root (λ r. (list : List Item) × IsProgram text list × EndsList budget list e.why e.status r)
+      ⊎ (((f : SyntaxFault) × scan.HasFault text f × (e.why ≡ Syntax f) × (e.status ≡ 2) × HasRoot e.root (IsRefused (syntax_line f) 2))
+      ⊎ ((IsScriptText text × (e.why ≡ NotBuilt) × (e.status ≡ 1) × HasRoot e.root (IsRefused not_built_line 1))
+      ⊎ IsLost e.why e.status e.root))
 
   -- how it ends from a text that is checked alone: it has no fault, or is refused with its first, or memory ran out
   abbrev pub EndsCheck : List ℕ → Ended Po A → Type 0
   EndsCheck text e =
       (scan.IsText text × Passes e)
-      ⊎ (((f : SyntaxFault) × IsFaulty true text f × (e.why ≡ Syntax f) × (e.status ≡ 2) × HasRoot e.root (IsRefused (syntax_line f) 2))
+      ⊎ (((f : SyntaxFault) × scan.HasFault text f × (e.why ≡ Syntax f) × (e.status ≡ 2) × HasRoot e.root (IsRefused (syntax_line f) 2))
       ⊎ IsLost e.why e.status e.root)
 
   -- how it ends from a plan's text

@@ -3,7 +3,6 @@ ghost use Rattle.std.specs.Prelude.{◌≡◌, [], None, IfOk, OnOk, IsErrOf};
 ghost use Rattle.ksh_base.specs.Source.{Rose};
 ghost use Rattle.ksh_base.specs.Words.{IsKnown};
 ghost use Rattle.ksh_run.specs.Script.{IsText, IsFile};
-ghost use Rattle.ksh_run.specs.Texts.{not_of_the_form};
 ghost use Rattle.ksh_run.specs.Top.{EndsBoth, EndsBy, EndsPlan, EndsRun, EndsText, IsFresh, IsRoot, why_of};
 ghost use Rattle.ksh_run.specs.declared.ended.Why.TheVariants.{Memory};
 ghost use Rattle.shell_family.specs.Told.{ForTold, from};
@@ -12,15 +11,14 @@ ghost use Rattle.ksh_base.specs.declared.source.ReadRefused.{ReadRefused};
 use crate::check::check_root;
 use crate::ended::{Ended, Why};
 use crate::refuse::{lose, refuse, refuse_text, refuse_words};
-use crate::texts::source_text;
+use crate::texts::{not_built_text, source_text};
 use cmd_eval::run_job;
 use kernel_ask::{Port, World};
 use ksh_base::{
-    Place, Plan, ReadRefused, ScriptFrom, ShellName, Source, Text, WordsRefused, read_script,
+    Plan, ReadRefused, ScriptFrom, ShellName, Source, Text, WordsRefused, read_script,
     read_words,
 };
-use ksh_lexer::{SyntaxFault, SyntaxKind};
-use ksh_parser::{SyntaxRefused, parse_script};
+use ksh_program::{Unparsed, read_program};
 use ksh_script::List;
 use shell_family::Forked;
 use shell_state::{ShellState, Start};
@@ -93,16 +91,6 @@ fn why_of(stop: ShellStop) -> Why
     }
 }
 
-// The one fault of a text that isn't of the form that is run.
-fn not_of_the_form() -> SyntaxFault
-    ensures { result ≡ not_of_the_form }
-{
-    SyntaxFault {
-        kind: SyntaxKind::NotInProfile,
-        place: Place { line: 1, byte: 0 },
-    }
-}
-
 // Runs the script that the text is, or refuses it.
 fn run_text<Po: Port<Start> + 'static, P: Spawner + 'static, A: Album<Po> + 'static>(
     alloc: Global,
@@ -117,12 +105,14 @@ fn run_text<Po: Port<Start> + 'static, P: Spawner + 'static, A: Album<Po> + 'sta
     ensures ends { EndsText Po.sees budget text.now result }
     ensures root { ForTold result.root (IsRoot Po.sees A.list P.faults (from (Po.sees port))) }
 {
-    match parse_script(alloc, text) {
+    match read_program(alloc, text) {
         Ok(list) => run_list(alloc, budget, list, port, spawner, album),
-        Err(SyntaxRefused::Fault(_)) => {
-            refuse_text(alloc, not_of_the_form(), port, spawner, album)
-        }
-        Err(SyntaxRefused::Memory) => lose(alloc, port, spawner, album),
+        Err(Unparsed::Fault(fault)) => refuse_text(alloc, fault, port, spawner, album),
+        Err(Unparsed::NotBuilt) => match not_built_text(alloc) {
+            Ok(line) => refuse(alloc, port, spawner, album, Why::NotBuilt, 1, line),
+            Err(_) => lose(alloc, port, spawner, album),
+        },
+        Err(Unparsed::Memory) => lose(alloc, port, spawner, album),
     }
 }
 
@@ -197,10 +187,10 @@ fn no_root<Po, A>() -> Ended<Po, A>
 ///
 /// In this order: the words, the root's port, the source, the script's text, the run. `Usage`
 /// comes exactly where the words have that fault, `SourceFault` exactly where a read of this call
-/// failed, `Syntax` exactly where the text is no script, and each of them has written one line on
-/// handle 2; else the root is a run of the script's list, and `Meant` and `Spent` are the meaning's.
-/// With `-n` the script is checked alone: `Syntax` comes with its first fault, and `Meant`, with the
-/// status 0, where it has none, and then nothing was asked. Want of memory may come at each step.
+/// failed, `Syntax` with the text's first fault, and each of them has written one line on
+/// handle 2; else the root is a run of the script's commands, and `Meant` and `Spent` are the meaning's.
+/// `NotBuilt` may come for scripts alone; none is known for which it does. With `-n` the script is checked
+/// alone: `Meant` has the status 0 then, and nothing was asked. Want of memory may come at each step.
 pub fn run_shell<
     S: Source,
     W: World<Start> + Drop,

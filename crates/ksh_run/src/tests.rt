@@ -106,9 +106,9 @@ fn scripts_are_run_or_refused(rt: HostRuntime) -> Result<(), Fail> {
     assert!(rt; t.out.bytes() == b"hello\n|".as_slice());
     let t = tell(rt, &[b"-c", b""], None)?;
     assert!(rt; t.why == Why::Meant && t.status == 0 && t.asks == 0);
-    let t = tell(rt, &[b"-c", b"print $(x)"], None)?;
+    let t = tell(rt, &[b"-c", b"print a;;"], None)?;
     assert!(rt; t.stop == ShellStop::Before && t.status == 2 && t.asks == 1);
-    let line = b"kshtree: syntax fault 10 at line 1, byte 0: NotInProfile\n|".as_slice();
+    let line = b"kshtree: syntax fault 1 at line 1, byte 7: UnexpectedToken\n|".as_slice();
     assert!(rt; t.errors.bytes() == line);
     let t = tell(rt, &[], None)?;
     assert!(rt; t.errors.bytes() == b"kshtree: usage fault 1 at word 1\n|".as_slice());

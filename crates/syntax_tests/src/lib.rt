@@ -9,6 +9,8 @@ mod copies;
 #[cfg(test)]
 mod notes;
 #[cfg(test)]
+mod parser;
+#[cfg(test)]
 mod parts;
 #[cfg(test)]
 mod reading;

@@ -1,0 +1,50 @@
+-- What is given to parts that a choice decides on.
+use Rattle.std.specs.Prelude.{◌≡◌, ℕ, ◌↔◌, Bool, true, false, List, [], ◌∷◌, ◌++◌, Some, IsTrue}
+use Rattle.std.proofs.Common.{◌∙◌, sym, ap, refl}
+use Rattle.std.proofs.lemmas.Bool.{false≢true}
+use Rattle.ksh_ast.specs.declared.redirect.Redirect.{Redirect}
+use Rattle.ksh_ast.specs.declared.tree.Argument.{Argument}
+use Rattle.ksh_ast.specs.declared.tree.Argument.TheVariants as argument
+use Rattle.ksh_ast.specs.declared.tree.Assign.{Assign}
+use Rattle.ksh_ast.specs.declared.tree.ParamOf.TheVariants as of
+use Rattle.ksh_ast.specs.declared.tree.Piece.{Piece}
+use Rattle.ksh_ast.specs.declared.tree.TreePart.{TreePart}
+use Rattle.ksh_ast.specs.declared.tree.TreePath.{TreePath}
+use Rattle.ksh_syntax.specs.declared.kind.Kind.TheVariants as kind
+use Rattle.tree_parts.specs.declared.asked.Asked.TheVariants as asked
+use Rattle.tree_parts.specs.declared.sign.Sign.{Sign}
+use Rattle.tree_parts.specs.Literals.{Adds}
+use Rattle.tree_build.specs.Frame.{Frame, Text, Parameter, Assigned, Simple}
+use Rattle.tree_build.specs.Heard.{Lexed}
+use Rattle.tree_build.specs.Frames.{Hears, Keeps}
+use Rattle.tree_build.proofs.Bracing.{reads_names_with_prefix}
+use Rattle.tree_build.proofs.Texting.{reads_literal_piece}
+use Rattle.tree_build.proofs.Wording.{reads_first_assignment, reads_later_assignment}
+
+-- a token that is a literal
+pub adds_literal : (s : Sign) (b : List ℕ) (added : Bool) (ps qs : List Piece) (old s1 new : List Frame) → added ≡ true → Adds added s b ps qs
+    → old ≡ Text ps ∷ s1 → new ≡ Text qs ∷ s1 → Hears (Lexed s b) old new
+adds_literal s b true ps qs old s1 new is adds o last =
+    reads_literal_piece s b adds.0 adds.1 ps old s1 new adds.2 o (last ∙ ap (λ (rs : List Piece). Text rs ∷ s1) adds.3)
+adds_literal s b false ps qs old s1 new is adds o last = absurd (false≢true is)
+
+-- `${!x@}` of a name alone
+pub names_prefix : (s : Sign) (b : List ℕ) (quoted : Bool) (path : TreePath) (old s1 new : List Frame) → s.kind ≡ kind.Prefix → path.parts ≡ []
+    → old ≡ Parameter quoted asked.Target (of.Var path) ∷ s1 → new ≡ Parameter quoted asked.Value (of.Prefix path.name) ∷ s1 → Hears (Lexed s b) old new
+names_prefix s b quoted path old s1 new is alone o last =
+    reads_names_with_prefix s b quoted path.name old s1 new is
+    (o ∙ ap (λ (parts : List TreePart). Parameter quoted asked.Target (of.Var (record { name = path.name; parts = parts })) ∷ s1) alone) last
+
+-- an assignment where no word was read
+pub gives_first : (at line : ℕ) (given : List Assign) (ws : List Argument) (rs : List (Redirect (List Piece))) (a : Assign) (old s1 s2 new : List Frame) → ws ≡ []
+    → old ≡ Assigned a ∷ s1 → s1 ≡ Simple at line given ws rs ∷ s2 → new ≡ Simple at line (given ++ a ∷ []) ws rs ∷ s2 → Keeps old new
+gives_first at line given ws rs a old s1 s2 new none o o' last =
+    reads_first_assignment at line given rs a old s1 s2 new o
+    (o' ∙ ap (λ (vs : List Argument). Simple at line given vs rs ∷ s2) none) (last ∙ ap (λ (vs : List Argument). Simple at line (given ++ a ∷ []) vs rs ∷ s2) none)
+
+-- one behind words
+pub gives_later : (at line : ℕ) (given : List Assign) (ws : List Argument) (rs : List (Redirect (List Piece))) (a : Assign) (empty : Bool) (old s1 s2 new : List Frame)
+    → (IsTrue empty ↔ (ws ≡ [])) → empty ≡ false
+    → old ≡ Assigned a ∷ s1 → s1 ≡ Simple at line given ws rs ∷ s2 → new ≡ Simple at line given (ws ++ argument.Assign a ∷ []) rs ∷ s2 → Keeps old new
+gives_later at line given [] rs a empty old s1 s2 new is some o o' last = absurd (false≢true (sym some ∙ is.1 refl))
+gives_later at line given (w ∷ ws) rs a empty old s1 s2 new is some o o' last = reads_later_assignment at line given ws rs w a old s1 s2 new o o' last

@@ -1,0 +1,15 @@
+pub mod Steps
+pub mod Passing
+pub mod Texting
+pub mod Bracing
+pub mod Wording
+pub mod Listing
+pub mod Compounding
+pub mod Defining
+pub mod Testing
+pub mod Giving
+pub mod Turned
+pub mod Standing
+pub mod Onto
+pub mod Names
+pub mod Parts

@@ -1,0 +1,24 @@
+use Rattle.std.proofs.Common.{rules, sym, ◌∙◌, ◌≡◌, [], ◌∷◌, ◌++◌, refl}
+use Rattle.tree_build.specs.Loads.{below, top}
+use Rattle.tree_build.specs.Reads.{case_item}
+use Rattle.tree_build.specs.declared.opening.Open.TheVariants as opens
+use Rattle.tree_build.proofs.Onto.{listed_on, patterns_on, cases_on}
+use Rattle.tree_build.proofs.Compounding.{reads_case_item_ends}
+use Rattle.tree_build.proofs.loops.end_item.Goals as goal
+
+pub returns : goal.returns
+returns c =
+    let falls = c.in-Some.falls in
+    let line = c.in-Some-pop_item.line in
+    let body = c.in-Some-pop.body in
+    let patterns = c.in-Some-pop-2.patterns in
+    let rest = c.pop_item.new.opened in
+    let stood : c.frames.inside.opened ≡ opens.Listed ∷ opens.Patterns ∷ opens.Cases line ∷ rest = search rules in
+    let taken : c.frames.inside.lists.lists ≡ body ∷ c.pop.new.self = search rules in
+    let matched : c.frames.inside.compounds.word_lists ≡ patterns ∷ c.pop-2.new.self = search rules in
+    let added : c.add-ready.new.self ≡ (top [] c.frames.inside.compounds.cases ++ case_item patterns body falls ∷ []) ∷ below c.frames.inside.compounds.cases = search rules in
+    reads_case_item_ends c.args.sign c.args.bytes.now line _ _ _ _ falls _ _ _ _ _ (search rules)
+    (sym c.frames.view_is ∙ listed_on c.frames.inside.opened (opens.Patterns ∷ opens.Cases line ∷ rest) _ stood)
+    (patterns_on (opens.Patterns ∷ opens.Cases line ∷ rest) (opens.Cases line ∷ rest) _ refl)
+    (cases_on (opens.Cases line ∷ rest) rest _ line refl)
+    (rw (added, taken, matched) (cases_on c.push_after.new.self rest _ line (search rules)))

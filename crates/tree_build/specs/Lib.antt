@@ -1,0 +1,10 @@
+pub mod Frame
+pub mod Places
+pub mod Loads
+pub mod Heard
+pub mod Tables
+pub mod Silent
+pub mod Reads
+pub mod Frames
+pub mod Counts
+pub mod Names

@@ -1,0 +1,520 @@
+//! Functions, and the entries of values.
+ghost use Rattle.ksh_syntax.specs.declared.part.Mark.TheVariants.{CompoundEnds, MemberBody, SimpleBegins, SimpleEnds};
+ghost use Rattle.tree_build.specs.Frames.{Grows, GrowsIn, Stays, StaysIn};
+ghost use Rattle.tree_build.specs.Heard.{Lexed, Marked};
+ghost use Rattle.tree_build.specs.Reads.{EndsWithFunction, definition, slice};
+ghost use Rattle.std.specs.Prelude.{◌≡◌, true, false, [], ◌∷◌, ◌++◌, IfOk, IfSome, OnOk};
+ghost use Rattle.tree_build.specs.Names.{IsOneWord, StandsBehind};
+ghost use Rattle.tree_parts.specs.declared.entry.Entry.TheVariants.{Function};
+ghost use Rattle.tree_parts.specs.Literals.{literal};
+ghost use Rattle.tree_parts.specs.Parts.{item};
+
+use crate::begins::open_list;
+use crate::frames::Frames;
+use crate::opening::{Open, Opening};
+use crate::place::Place;
+use crate::script::slice;
+use crate::tables::{breaks, is_word};
+use crate::unbuilt::Unbuilt;
+use ksh_ast::{Argument, Assign, Command, FunctionDef, List, Piece, Redirect, Word};
+use ksh_base::{Items, Memory, Name, Shared, Text};
+use ksh_syntax::Kind;
+use std::alloc::Global;
+use tree_parts::{Entry, Moment, Sign, list_of, names_of, with_redirects};
+
+/// The name behind `function`.
+#[tactic(auto, using(crate::proofs::Defining::reads_function_name, crate::proofs::Onto::function_on, crate::proofs::Onto::function_name_on, crate::proofs::Onto::function_loaded))]
+pub fn function_name(
+    frames: &mut Frames,
+    alloc: Global,
+    sign: Sign,
+    bytes: &[u8],
+) -> Result<(), Unbuilt>
+    ensures { Grows (Lexed sign bytes.now) frames.old frames.new result }
+{
+    if !is_word(sign.kind) {
+        return Err(frames.opened.stray());
+    }
+    let name = match names_of(alloc, bytes) {
+        Ok(Some(name)) => name,
+        Ok(None) => return Err(frames.opened.stray()),
+        Err(_) => return Err(frames.opened.lost()),
+    };
+    let Some(Open::Opened(Opening::Function(from, line))) = frames.opened.pop() else {
+        return Err(frames.opened.stray());
+    };
+    let ready = frames.lists.function_names.push(name);
+    let open = Open::FunctionName(from, line, true);
+    frames.opened.push_after(ready, open)?;
+    Ok(())
+}
+
+/// The `(` behind the name of a function.
+#[tactic(auto, using(crate::proofs::Defining::reads_name_and_parentheses, crate::proofs::Onto::simple_on, crate::proofs::Onto::function_name_on, crate::proofs::Onto::simple_loaded))]
+pub fn name_function(
+    frames: &mut Frames,
+    alloc: Global,
+    sign: Sign,
+    bytes: &[u8],
+) -> Result<(), Unbuilt>
+    ensures { Grows (Lexed sign bytes.now) frames.old frames.new result }
+{
+    if sign.kind != Kind::Open {
+        return Err(frames.opened.stray());
+    }
+    let Some(Open::Simple(from, line)) = frames.opened.pop() else {
+        return Err(frames.opened.stray());
+    };
+    let Some(given) = frames.simples.assigns.pop() else {
+        unreachable!();
+    };
+    let Some(words) = frames.simples.arguments.pop() else {
+        unreachable!();
+    };
+    let Some(redirects) = frames.redirections.redirects.pop() else {
+        unreachable!();
+    };
+    let Some(word) = only_word(given, words, redirects) else {
+        return Err(frames.opened.stray());
+    };
+    let Some(text) = literal_text(word) else {
+        return Err(frames.opened.stray());
+    };
+    let name = match names_of(alloc, text.bytes()) {
+        Ok(Some(name)) => name,
+        Ok(None) => return Err(frames.opened.stray()),
+        Err(_) => return Err(frames.opened.lost()),
+    };
+    let ready = frames.lists.function_names.push(name);
+    let open = Open::FunctionName(from, line, false);
+    frames.opened.push_after(ready, open)?;
+    Ok(())
+}
+
+/// The `(` behind the name of a function among members.
+#[tactic(auto, using(crate::proofs::Defining::reads_member_name, crate::proofs::Onto::whole_on, crate::proofs::Onto::function_name_on, crate::proofs::Onto::whole_loaded))]
+pub fn name_member(
+    frames: &mut Frames,
+    alloc: Global,
+    sign: Sign,
+    bytes: &[u8],
+) -> Result<(), Unbuilt>
+    ensures { Grows (Lexed sign bytes.now) frames.old frames.new result }
+{
+    if sign.kind != Kind::Open {
+        return Err(frames.opened.stray());
+    }
+    let Some(Open::Whole(from, _, false)) = frames.opened.pop() else {
+        return Err(frames.opened.stray());
+    };
+    let Some(word) = frames.texts.words.pop() else {
+        unreachable!();
+    };
+    let Some(text) = literal_text(word) else {
+        return Err(frames.opened.stray());
+    };
+    let name = match names_of(alloc, text.bytes()) {
+        Ok(Some(name)) => name,
+        Ok(None) => return Err(frames.opened.stray()),
+        Err(_) => return Err(frames.opened.lost()),
+    };
+    let ready = frames.lists.function_names.push(name);
+    let open = Open::FunctionName(from, sign.line, false);
+    frames.opened.push_after(ready, open)?;
+    Ok(())
+}
+
+/// The text of a function that begins at a place and ends at a moment.
+fn text_from(alloc: Global, script: &[u8], from: usize, moment: Moment) -> Result<Text, Memory>
+    ensures { IfOk result (λ text. text ≡ slice script.now from moment.to) }
+{
+    Text::of(alloc, slice(script, from, moment.to))
+}
+
+/// A function whose body is this command, on that line.
+fn definition_of(
+    alloc: Global,
+    own: u32,
+    command: Command,
+    name: Items<Name>,
+    own_scope: bool,
+    text: Text,
+) -> Result<Shared<FunctionDef<List>>, Memory>
+    ensures { IfOk result (λ d. d ≡ definition name own_scope (item own command ∷ []) text) }
+{
+    let definition = FunctionDef {
+        name,
+        own_scope,
+        body: list_of(alloc, own, command)?,
+        text,
+    };
+    Ok(Shared::new(alloc, definition)?)
+}
+
+#[tactic(auto, using(crate::proofs::Onto::compound_loaded, crate::proofs::Onto::function_name_loaded))]
+fn close_function(
+    frames: &mut Frames,
+    alloc: Global,
+    script: &[u8],
+    moment: Moment,
+) -> Result<(), Unbuilt>
+    ensures { GrowsIn script.now (Marked CompoundEnds moment) frames.old frames.new result }
+{
+    let Some(Open::Compound(own)) = frames.opened.pop() else {
+        return Err(frames.opened.stray());
+    };
+    let Some(Open::FunctionName(from, line, own_scope)) = frames.opened.pop() else {
+        return Err(frames.opened.stray());
+    };
+    let Ok(text) = text_from(alloc, script, from, moment) else {
+        return Err(frames.opened.lost());
+    };
+    let Some(command) = frames.lists.commands.pop() else {
+        unreachable!();
+    };
+    let Some(redirects) = frames.redirections.redirects.pop() else {
+        unreachable!();
+    };
+    let Some(name) = frames.lists.function_names.pop() else {
+        unreachable!();
+    };
+    let Some(command) = with_redirects(command, redirects) else {
+        return Err(frames.opened.stray());
+    };
+    let Ok(defined) = definition_of(alloc, own, command, name, own_scope, text) else {
+        return Err(frames.opened.lost());
+    };
+    let ready = frames.lists.functions.push(defined);
+    frames.opened.push_after(ready, Open::Defined(line))?;
+    Ok(())
+}
+
+/// Makes a command of a function.
+#[tactic(auto, using(crate::proofs::Defining::reads_defines, crate::proofs::Onto::defined_on, crate::proofs::Onto::finished_on, crate::proofs::Onto::defined_loaded))]
+fn define(frames: &mut Frames) -> Result<(), Unbuilt>
+    ensures { Stays frames.old frames.new result }
+{
+    let Some(Open::Defined(line)) = frames.opened.pop() else {
+        return Err(frames.opened.stray());
+    };
+    let Some(definition) = frames.lists.functions.pop() else {
+        unreachable!();
+    };
+    let ready = frames.lists.commands.push(Command::Function { definition });
+    frames.opened.push_after(ready, Open::Finished(line))?;
+    Ok(())
+}
+
+/// Gives a function to the value of which it is a member.
+#[tactic(auto, using(crate::proofs::Onto::defined_loaded, crate::proofs::Onto::value_loaded))]
+fn give_member(frames: &mut Frames) -> Result<(), Unbuilt>
+    ensures { Stays frames.old frames.new result }
+{
+    let Some(Open::Defined(_)) = frames.opened.pop() else {
+        return Err(frames.opened.stray());
+    };
+    let Some(Open::Value) = frames.opened.pop() else {
+        return Err(frames.opened.stray());
+    };
+    let Some(definition) = frames.lists.functions.pop() else {
+        unreachable!();
+    };
+    let ready = frames.texts.entries.add(Entry::Function(definition));
+    frames.opened.push_after(ready, Open::Value)?;
+    Ok(())
+}
+
+/// Gives a function to the value of which it is a member, or makes a command of it.
+fn give_function(frames: &mut Frames) -> Result<(), Unbuilt>
+    ensures { Stays frames.old frames.new result }
+{
+    match frames.at(1) {
+        Place::Value => give_member(frames),
+        _ => define(frames),
+    }
+}
+
+#[tactic(auto, using(crate::proofs::Steps::grows_in_stays))]
+fn end_function(
+    frames: &mut Frames,
+    alloc: Global,
+    script: &[u8],
+    moment: Moment,
+) -> Result<(), Unbuilt>
+    ensures { GrowsIn script.now (Marked CompoundEnds moment) frames.old frames.new result }
+{
+    close_function(frames, alloc, script, moment)?;
+    give_function(frames)
+}
+
+#[tactic(auto, using(crate::proofs::Compounding::reads_compound, crate::proofs::Onto::compound_on, crate::proofs::Onto::finished_on, crate::proofs::Onto::compound_loaded))]
+fn close_compound(frames: &mut Frames, moment: Moment) -> Result<(), Unbuilt>
+    ensures { Grows (Marked CompoundEnds moment) frames.old frames.new result }
+{
+    let Some(Open::Compound(line)) = frames.opened.pop() else {
+        return Err(frames.opened.stray());
+    };
+    let Some(command) = frames.lists.commands.pop() else {
+        unreachable!();
+    };
+    let Some(redirects) = frames.redirections.redirects.pop() else {
+        unreachable!();
+    };
+    let Some(command) = with_redirects(command, redirects) else {
+        return Err(frames.opened.stray());
+    };
+    let ready = frames.lists.commands.push(command);
+    frames.opened.push_after(ready, Open::Finished(line))?;
+    Ok(())
+}
+
+/// The `{` of a function comes among members.
+#[tactic(auto, using(crate::proofs::Defining::reads_member_body, crate::proofs::Onto::member_body_on))]
+pub fn begin_member_body(frames: &mut Frames, moment: Moment) -> Result<(), Unbuilt>
+    ensures { Grows (Marked MemberBody moment) frames.old frames.new result }
+{
+    frames
+        .opened
+        .push_after(Ok(()), Open::Opened(Opening::MemberBody))?;
+    Ok(())
+}
+
+#[tactic(auto, using(crate::proofs::Defining::reads_member_group, crate::proofs::Onto::member_body_on, crate::proofs::Onto::group_on, crate::proofs::Onto::member_body_loaded))]
+fn open_member_body(frames: &mut Frames, sign: Sign, bytes: &[u8]) -> Result<(), Unbuilt>
+    ensures { Grows (Lexed sign bytes.now) frames.old frames.new result }
+{
+    if sign.kind != Kind::LeftBrace {
+        return Err(frames.opened.stray());
+    }
+    let Some(Open::Opened(Opening::MemberBody)) = frames.opened.pop() else {
+        return Err(frames.opened.stray());
+    };
+    frames
+        .opened
+        .push_after(Ok(()), Open::Opened(Opening::Group(sign.line)))?;
+    Ok(())
+}
+
+/// That `{`.
+#[tactic(auto, using(crate::proofs::Steps::grows_stays))]
+pub fn begin_member_group(
+    frames: &mut Frames,
+    alloc: Global,
+    sign: Sign,
+    bytes: &[u8],
+) -> Result<(), Unbuilt>
+    ensures { Grows (Lexed sign bytes.now) frames.old frames.new result }
+{
+    open_member_body(frames, sign, bytes)?;
+    open_list(frames, alloc)
+}
+
+/// Puts a function behind entries.
+fn add_function(
+    alloc: Global,
+    entries: &mut Items<Entry>,
+    own: u32,
+    command: Command,
+    name: Items<Name>,
+    text: Text,
+) -> Result<(), Memory>
+    ensures { OnOk result (entries.new ≡ entries.old ++ Function (definition name true (item own command ∷ []) text) ∷ []) }
+{
+    let defined = definition_of(alloc, own, command, name, true, text)?;
+    entries.push(Entry::Function(defined))?;
+    Ok(())
+}
+
+#[tactic(auto, using(crate::proofs::Onto::compound_loaded, crate::proofs::Onto::value_loaded))]
+fn close_named_member(
+    frames: &mut Frames,
+    alloc: Global,
+    script: &[u8],
+    moment: Moment,
+) -> Result<(), Unbuilt>
+    ensures { GrowsIn script.now (Marked CompoundEnds moment) frames.old frames.new result }
+{
+    let Some(Open::Compound(own)) = frames.opened.pop() else {
+        return Err(frames.opened.stray());
+    };
+    let Some(Open::Value) = frames.opened.pop() else {
+        return Err(frames.opened.stray());
+    };
+    let Some(command) = frames.lists.commands.pop() else {
+        unreachable!();
+    };
+    let Some(redirects) = frames.redirections.redirects.pop() else {
+        unreachable!();
+    };
+    let Some(mut entries) = frames.texts.entries.pop() else {
+        unreachable!();
+    };
+    let Some(command) = with_redirects(command, redirects) else {
+        return Err(frames.opened.stray());
+    };
+    let Ok(named) = named_text(alloc, script, &mut entries, moment) else {
+        return Err(frames.opened.lost());
+    };
+    let Some((_from, name, text)) = named else {
+        return Err(frames.opened.stray());
+    };
+    let Ok(()) = add_function(alloc, &mut entries, own, command, name, text) else {
+        return Err(frames.opened.lost());
+    };
+    let ready = frames.texts.entries.push(entries);
+    frames.opened.push_after(ready, Open::Value)?;
+    Ok(())
+}
+
+/// A compound command and the redirections behind it end.
+#[tactic(auto, using(crate::proofs::Steps::grows_in))]
+pub fn end_compound(
+    frames: &mut Frames,
+    alloc: Global,
+    script: &[u8],
+    moment: Moment,
+) -> Result<(), Unbuilt>
+    ensures { GrowsIn script.now (Marked CompoundEnds moment) frames.old frames.new result }
+{
+    match frames.at(1) {
+        Place::FunctionName => end_function(frames, alloc, script, moment),
+        Place::Value => close_named_member(frames, alloc, script, moment),
+        _ => close_compound(frames, moment),
+    }
+}
+
+/// The word `typeset` among entries.
+#[tactic(auto, using(crate::proofs::Defining::reads_value_typeset, crate::proofs::Onto::value_on, crate::proofs::Onto::value_loaded))]
+pub fn typeset(frames: &mut Frames, sign: Sign, bytes: &[u8]) -> Result<(), Unbuilt>
+    ensures { Grows (Lexed sign bytes.now) frames.old frames.new result }
+{
+    if sign.kind != Kind::Typeset {
+        return Err(frames.opened.stray());
+    }
+    let Some(Open::Value) = frames.opened.pop() else {
+        return Err(frames.opened.stray());
+    };
+    let ready = frames.texts.entries.add(Entry::Typeset);
+    frames.opened.push_after(ready, Open::Value)?;
+    Ok(())
+}
+
+/// A newline or `;` among entries.
+#[tactic(auto, using(crate::proofs::Defining::reads_value_break, crate::proofs::Onto::value_on, crate::proofs::Onto::value_loaded))]
+pub fn break_entries(frames: &mut Frames, sign: Sign, bytes: &[u8]) -> Result<(), Unbuilt>
+    ensures { Grows (Lexed sign bytes.now) frames.old frames.new result }
+{
+    if !breaks(sign.kind) {
+        return Err(frames.opened.stray());
+    }
+    let Some(Open::Value) = frames.opened.pop() else {
+        return Err(frames.opened.stray());
+    };
+    let ready = frames.texts.entries.add(Entry::Break);
+    frames.opened.push_after(ready, Open::Value)?;
+    Ok(())
+}
+
+/// The word that a simple command is; nothing where it is more.
+#[tactic(auto, using(crate::proofs::Names::one_word))]
+fn only_word(
+    given: Items<Assign>,
+    words: Items<Argument>,
+    redirects: Items<Redirect<Word>>,
+) -> Option<Word>
+    ensures { IfSome result (λ word. IsOneWord given words redirects word) }
+{
+    if !given.is_empty() {
+        return None;
+    }
+    if !redirects.is_empty() {
+        return None;
+    }
+    let mut front = words;
+    let Some(Argument::Word(word)) = front.pop() else {
+        return None;
+    };
+    if !front.is_empty() {
+        return None;
+    }
+    Some(word)
+}
+
+/// The bytes of a word that is an unquoted literal.
+#[tactic(auto, using(crate::proofs::Names::one_literal))]
+fn literal_text(word: Word) -> Option<Text>
+    ensures { IfSome result (λ text. word ≡ literal text false) }
+{
+    let mut front = word;
+    let Some(
+        Piece::Literal {
+            text,
+            quoted: false,
+        },
+    ) = front.pop()
+    else {
+        return None;
+    };
+    if !front.is_empty() {
+        return None;
+    }
+    if text.is_empty() {
+        return None;
+    }
+    Some(text)
+}
+
+/// Takes newlines and `;` from behind entries, and what stands before them.
+fn before_breaks(entries: &mut Items<Entry>) -> Option<Entry>
+    ensures { IfSome result (λ entry. StandsBehind entries.old entries.new entry) }
+{
+    while let Some(entry) = entries.pop() {
+        match entry {
+            Entry::Break => {}
+            other => return Some(other),
+        }
+    }
+    None
+}
+
+/// Takes `function`, a name and newlines from behind entries: the first's place, and the name.
+#[tactic(auto, using(crate::proofs::Names::ends_with_function))]
+fn named_function(
+    alloc: Global,
+    entries: &mut Items<Entry>,
+) -> Result<Option<(usize, Items<Name>)>, Memory>
+    ensures { IfOk result (λ o. IfSome o (λ f. EndsWithFunction entries.old entries.new f.0 f.1)) }
+{
+    let Some(Entry::Word(name, _)) = before_breaks(entries) else {
+        return Ok(None);
+    };
+    let Some(Entry::Word(word, from)) = entries.pop() else {
+        return Ok(None);
+    };
+    let Some(name) = literal_text(name) else {
+        return Ok(None);
+    };
+    let Some(_word) = literal_text(word) else {
+        return Ok(None);
+    };
+    let Some(names) = names_of(alloc, name.bytes())? else {
+        return Ok(None);
+    };
+    Ok(Some((from, names)))
+}
+
+/// The same, and the text of the function from that place to a moment.
+fn named_text(
+    alloc: Global,
+    script: &[u8],
+    entries: &mut Items<Entry>,
+    moment: Moment,
+) -> Result<Option<(usize, Items<Name>, Text)>, Memory>
+    ensures { IfOk result (λ o. IfSome o (λ f. EndsWithFunction entries.old entries.new f.0 f.1 × (f.2 ≡ slice script.now f.0 moment.to))) }
+{
+    let Some((from, names)) = named_function(alloc, entries)? else {
+        return Ok(None);
+    };
+    let text = text_from(alloc, script, from, moment)?;
+    Ok(Some((from, names, text)))
+}
