@@ -1,11 +1,15 @@
 -- What is given to parts that a choice decides on.
-use Rattle.std.specs.Prelude.{◌≡◌, ℕ, ◌↔◌, Bool, true, false, List, [], ◌∷◌, ◌++◌, Some, IsTrue}
+use Rattle.std.specs.Prelude.{◌≡◌, ℕ, ◌↔◌, Bool, true, false, List, [], ◌∷◌, ◌++◌, Option, Some, IsTrue}
 use Rattle.std.proofs.Common.{◌∙◌, sym, ap, refl}
 use Rattle.std.proofs.lemmas.Bool.{false≢true}
 use Rattle.ksh_ast.specs.declared.redirect.Redirect.{Redirect}
 use Rattle.ksh_ast.specs.declared.tree.Argument.{Argument}
 use Rattle.ksh_ast.specs.declared.tree.Argument.TheVariants as argument
+use Rattle.ksh_ast.specs.declared.tree.Arith.{Arith}
 use Rattle.ksh_ast.specs.declared.tree.Assign.{Assign}
+use Rattle.ksh_ast.specs.declared.tree.Command.{Command}
+use Rattle.ksh_ast.specs.declared.tree.Item.{Item}
+use Rattle.ksh_ast.specs.declared.tree.ParamOf.{ParamOf}
 use Rattle.ksh_ast.specs.declared.tree.ParamOf.TheVariants as of
 use Rattle.ksh_ast.specs.declared.tree.Piece.{Piece}
 use Rattle.ksh_ast.specs.declared.tree.TreePart.{TreePart}
@@ -13,11 +17,15 @@ use Rattle.ksh_ast.specs.declared.tree.TreePath.{TreePath}
 use Rattle.ksh_syntax.specs.declared.kind.Kind.TheVariants as kind
 use Rattle.tree_parts.specs.declared.asked.Asked.TheVariants as asked
 use Rattle.tree_parts.specs.declared.sign.Sign.{Sign}
-use Rattle.tree_parts.specs.Literals.{Adds}
-use Rattle.tree_build.specs.Frame.{Frame, Text, Parameter, Assigned, Simple}
+use Rattle.tree_parts.specs.Literals.{Adds, literal}
+use Rattle.tree_parts.specs.Parts.{names_of}
+use Rattle.tree_build.specs.Counts.{Counts}
+use Rattle.tree_build.specs.Frame.{Frame, Text, Parameter, Assigned, Simple, Listed, ForArithmeticBody, Compound, Whole, FunctionName}
 use Rattle.tree_build.specs.Heard.{Lexed}
 use Rattle.tree_build.specs.Frames.{Hears, Keeps}
 use Rattle.tree_build.proofs.Bracing.{reads_names_with_prefix}
+use Rattle.tree_build.proofs.Compounding.{reads_for_arithmetic_ends}
+use Rattle.tree_build.proofs.Defining.{reads_member_name, reads_name_and_parentheses}
 use Rattle.tree_build.proofs.Texting.{reads_literal_piece}
 use Rattle.tree_build.proofs.Wording.{reads_first_assignment, reads_later_assignment}
 
@@ -35,6 +43,27 @@ names_prefix s b quoted path old s1 new is alone o last =
     reads_names_with_prefix s b quoted path.name old s1 new is
     (o ∙ ap (λ (parts : List TreePart). Parameter quoted asked.Target (of.Var (record { name = path.name; parts = parts })) ∷ s1) alone) last
 
+-- the same where the parameter is told
+pub takes_prefix : (s : Sign) (b : List ℕ) (quoted : Bool) (path : TreePath) (o : ParamOf) (old s1 new : List Frame) → s.kind ≡ kind.Prefix → path.parts ≡ [] → o ≡ of.Var path
+    → old ≡ Parameter quoted asked.Target o ∷ s1 → new ≡ Parameter quoted asked.Value (of.Prefix path.name) ∷ s1 → Hears (Lexed s b) old new
+takes_prefix s b quoted path o old s1 new is alone var before last =
+    names_prefix s b quoted path old s1 new is alone (before ∙ ap (λ (p : ParamOf). Parameter quoted asked.Target p ∷ s1) var) last
+
+-- the one word of a command is a function's name
+pub names_function : (s : Sign) (b : List ℕ) (from line : ℕ) (name : List ℕ) (gs : List Assign) (ws : List Argument) (rs : List (Redirect (List Piece))) (old s1 new : List Frame)
+    → s.kind ≡ kind.Open → gs ≡ [] → ws ≡ argument.Word (literal name false) ∷ [] → rs ≡ [] → old ≡ Simple from line gs ws rs ∷ s1
+    → new ≡ FunctionName from line false (names_of name) ∷ s1 → Hears (Lexed s b) old new
+names_function s b from line name gs ws rs old s1 new is given words redirects o last =
+    reads_name_and_parentheses s b from line name old s1 new is
+    (o ∙ ap (λ (xs : List Assign). Simple from line xs ws rs ∷ s1) given ∙ ap (λ (xs : List Argument). Simple from line [] xs rs ∷ s1) words
+    ∙ ap (λ (xs : List (Redirect (List Piece))). Simple from line [] (argument.Word (literal name false) ∷ []) xs ∷ s1) redirects) last
+
+-- a word among entries is a function's name
+pub names_member : (s : Sign) (b : List ℕ) (from to : ℕ) (name : List ℕ) (ps : List Piece) (old s1 new : List Frame) → s.kind ≡ kind.Open → ps ≡ literal name false
+    → old ≡ Whole ps from to false ∷ s1 → new ≡ FunctionName from s.line false (names_of name) ∷ s1 → Hears (Lexed s b) old new
+names_member s b from to name ps old s1 new is word o last =
+    reads_member_name s b from to name old s1 new is (o ∙ ap (λ (xs : List Piece). Whole xs from to false ∷ s1) word) last
+
 -- an assignment where no word was read
 pub gives_first : (at line : ℕ) (given : List Assign) (ws : List Argument) (rs : List (Redirect (List Piece))) (a : Assign) (old s1 s2 new : List Frame) → ws ≡ []
     → old ≡ Assigned a ∷ s1 → s1 ≡ Simple at line given ws rs ∷ s2 → new ≡ Simple at line (given ++ a ∷ []) ws rs ∷ s2 → Keeps old new
@@ -48,3 +77,10 @@ pub gives_later : (at line : ℕ) (given : List Assign) (ws : List Argument) (rs
     → old ≡ Assigned a ∷ s1 → s1 ≡ Simple at line given ws rs ∷ s2 → new ≡ Simple at line given (ws ++ argument.Assign a ∷ []) rs ∷ s2 → Keeps old new
 gives_later at line given [] rs a empty old s1 s2 new is some o o' last = absurd (false≢true (sym some ∙ is.1 refl))
 gives_later at line given (w ∷ ws) rs a empty old s1 s2 new is some o o' last = reads_later_assignment at line given ws rs w a old s1 s2 new o o' last
+
+-- the `done` of `for ((`
+pub ends_counted : (s : Sign) (b : List ℕ) (line : ℕ) (parts : List (Option Arith)) (body : List Item) (c : Command) (old s1 s2 new : List Frame) → s.kind ≡ kind.Done → Counts parts body c
+    → old ≡ Listed body ∷ s1 → s1 ≡ ForArithmeticBody line parts ∷ s2 → new ≡ Compound line c [] ∷ s2 → Hears (Lexed s b) old new
+ends_counted s b line parts body c old s1 s2 new is counts o o' last =
+    reads_for_arithmetic_ends s b line counts.0 counts.1 counts.2 body old s1 s2 new is o
+    (o' ∙ ap (λ (es : List (Option Arith)). ForArithmeticBody line es ∷ s2) counts.3) (last ∙ ap (λ (d : Command). Compound line d [] ∷ s2) counts.4)

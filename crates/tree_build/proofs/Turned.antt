@@ -19,12 +19,12 @@ pub nothing_at : {A : Type 0} (xs : List A) (k count : ℕ) → count ≡ length
 nothing_at xs k count all h = sym (slice_get_past (reverse xs) k (omega (arith, all, length-reverse xs, h)))
 
 first_is : {A : Type 0} (otherwise : A) (ys : List A) (y : A) → Some y ≡ slice_get ys 0 → top otherwise ys ≡ y
-first_is otherwise [] y ()
-first_is otherwise (x ∷ ys) y refl = refl
+first_is otherwise [] y h = absurd cc
+first_is otherwise (x ∷ ys) y h = cc
 
 -- the last item is the top
 pub turned_top : {A : Type 0} (xs : List A) (count : ℕ) (otherwise y : A) → count ≡ length xs → 0 < count → Some y ≡ slice_get xs (count - 1) → top otherwise (reverse xs) ≡ y
-turned_top xs count otherwise y all h is = first_is otherwise (reverse xs) y (turned_at xs 0 count (Some y) all h is)
+turned_top xs count otherwise y all h is = first_is otherwise (reverse xs) y (turned_at xs 0 count (Some y) all h (is ∙ ap (λ n. slice_get xs n) (omega arith)))
 
 pub turned_none : {A : Type 0} (xs : List A) (otherwise : A) → length xs ≡ 0 → top otherwise (reverse xs) ≡ otherwise
 turned_none [] otherwise h = refl

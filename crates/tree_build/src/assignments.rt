@@ -1,4 +1,6 @@
 //! Assignments and redirections.
+ghost use Rattle.std.specs.Prelude.{◌≡◌, ◌∷◌, OnOk};
+ghost use Rattle.tree_build.specs.Frame.{Assigning};
 ghost use Rattle.tree_build.specs.Frames.{Grows};
 ghost use Rattle.tree_build.specs.Heard.{BodyBegins, BodyEnds, Lexed};
 
@@ -8,7 +10,7 @@ use crate::tables::assigns;
 use crate::texts::open_text;
 use crate::unbuilt::Unbuilt;
 use crate::words::{give_assignment, give_redirection};
-use ksh_ast::{Assign, Redirect, RedirectForm};
+use ksh_ast::{Assign, Redirect, RedirectForm, TreePath};
 use ksh_base::Items;
 use ksh_lexer::TokenKind;
 use ksh_syntax::Kind;
@@ -16,7 +18,6 @@ use std::alloc::Global;
 use tree_parts::{Sign, adds, path_front, path_of, redirect_form, redirect_to, value_of};
 
 /// The path before a subscript of an assignment.
-#[tactic(auto, using(crate::proofs::Wording::reads_element, crate::proofs::Onto::target_on))]
 pub fn begin_element(
     frames: &mut Frames,
     alloc: Global,
@@ -93,8 +94,16 @@ pub fn begin_assigned(
     open_text(frames, alloc)
 }
 
+fn open_assigning(frames: &mut Frames, path: TreePath, append: bool) -> Result<(), Unbuilt>
+    ensures { OnOk result (frames.new ≡ Assigning path append ∷ frames.old) }
+{
+    let ready = frames.texts.paths.push(path);
+    frames.opened.push_after(ready, Open::Assigning(append))?;
+    Ok(())
+}
+
 /// `path=` or `path+=` before a value in parentheses.
-#[tactic(auto, using(crate::proofs::Wording::reads_assigns_value, crate::proofs::Onto::assigning_on))]
+#[tactic(auto, using(crate::proofs::Wording::reads_assigns_value))]
 pub fn assign_value(
     frames: &mut Frames,
     alloc: Global,
@@ -109,10 +118,7 @@ pub fn assign_value(
     let Some(path) = path_of(alloc, path_front(bytes))? else {
         return Err(frames.opened.stray());
     };
-    let ready = frames.texts.paths.push(path);
-    frames
-        .opened
-        .push_after(ready, Open::Assigning(adds(bytes)))?;
+    open_assigning(frames, path, adds(bytes))?;
     Ok(())
 }
 

@@ -39,7 +39,6 @@ fn opening(sign: Sign) -> Option<Opening>
 }
 
 /// `if`
-#[tactic(auto, using(crate::proofs::Compounding::reads_opens, crate::proofs::Onto::if_on))]
 fn open_if(frames: &mut Frames, alloc: Global, sign: Sign, bytes: &[u8]) -> Result<(), Unbuilt>
     ensures { Grows (Lexed sign bytes.now) frames.old frames.new result }
 {

@@ -5,15 +5,17 @@ ghost use Rattle.tree_build.specs.Heard.{Lexed, Marked};
 ghost use Rattle.tree_build.specs.Reads.{EndsWithFunction, definition, slice};
 ghost use Rattle.std.specs.Prelude.{◌≡◌, true, false, [], ◌∷◌, ◌++◌, IfOk, IfSome, OnOk};
 ghost use Rattle.tree_build.specs.Names.{IsOneWord, StandsBehind};
-ghost use Rattle.tree_parts.specs.declared.entry.Entry.TheVariants.{Function};
 ghost use Rattle.tree_parts.specs.Literals.{literal};
-ghost use Rattle.tree_parts.specs.Parts.{item};
+ghost use Rattle.tree_parts.specs.Parts.{item, with_redirects};
+ghost use Rattle.tree_build.specs.Loads.{IsThere, below, top};
+ghost use Rattle.ksh_ast.specs.declared.tree.Command.TheVariants as command;
 
 use crate::begins::open_list;
 use crate::frames::Frames;
 use crate::opening::{Open, Opening};
 use crate::place::Place;
 use crate::script::slice;
+use crate::stack::Stack;
 use crate::tables::{breaks, is_word};
 use crate::unbuilt::Unbuilt;
 use ksh_ast::{Argument, Assign, Command, FunctionDef, List, Piece, Redirect, Word};
@@ -23,7 +25,7 @@ use std::alloc::Global;
 use tree_parts::{Entry, Moment, Sign, list_of, names_of, with_redirects};
 
 /// The name behind `function`.
-#[tactic(auto, using(crate::proofs::Defining::reads_function_name, crate::proofs::Onto::function_on, crate::proofs::Onto::function_name_on, crate::proofs::Onto::function_loaded))]
+#[tactic(auto, using(crate::proofs::Onto::function_loaded))]
 pub fn function_name(
     frames: &mut Frames,
     alloc: Global,
@@ -35,10 +37,11 @@ pub fn function_name(
     if !is_word(sign.kind) {
         return Err(frames.opened.stray());
     }
-    let name = match names_of(alloc, bytes) {
-        Ok(Some(name)) => name,
-        Ok(None) => return Err(frames.opened.stray()),
-        Err(_) => return Err(frames.opened.lost()),
+    let Ok(found) = names_of(alloc, bytes) else {
+        return Err(frames.opened.lost());
+    };
+    let Some(name) = found else {
+        return Err(frames.opened.stray());
     };
     let Some(Open::Opened(Opening::Function(from, line))) = frames.opened.pop() else {
         return Err(frames.opened.stray());
@@ -50,7 +53,7 @@ pub fn function_name(
 }
 
 /// The `(` behind the name of a function.
-#[tactic(auto, using(crate::proofs::Defining::reads_name_and_parentheses, crate::proofs::Onto::simple_on, crate::proofs::Onto::function_name_on, crate::proofs::Onto::simple_loaded))]
+#[tactic(auto, using(crate::proofs::Onto::simple_loaded))]
 pub fn name_function(
     frames: &mut Frames,
     alloc: Global,
@@ -80,10 +83,11 @@ pub fn name_function(
     let Some(text) = literal_text(word) else {
         return Err(frames.opened.stray());
     };
-    let name = match names_of(alloc, text.bytes()) {
-        Ok(Some(name)) => name,
-        Ok(None) => return Err(frames.opened.stray()),
-        Err(_) => return Err(frames.opened.lost()),
+    let Ok(found) = names_of(alloc, text.bytes()) else {
+        return Err(frames.opened.lost());
+    };
+    let Some(name) = found else {
+        return Err(frames.opened.stray());
     };
     let ready = frames.lists.function_names.push(name);
     let open = Open::FunctionName(from, line, false);
@@ -92,7 +96,7 @@ pub fn name_function(
 }
 
 /// The `(` behind the name of a function among members.
-#[tactic(auto, using(crate::proofs::Defining::reads_member_name, crate::proofs::Onto::whole_on, crate::proofs::Onto::function_name_on, crate::proofs::Onto::whole_loaded))]
+#[tactic(auto, using(crate::proofs::Onto::whole_loaded))]
 pub fn name_member(
     frames: &mut Frames,
     alloc: Global,
@@ -113,10 +117,11 @@ pub fn name_member(
     let Some(text) = literal_text(word) else {
         return Err(frames.opened.stray());
     };
-    let name = match names_of(alloc, text.bytes()) {
-        Ok(Some(name)) => name,
-        Ok(None) => return Err(frames.opened.stray()),
-        Err(_) => return Err(frames.opened.lost()),
+    let Ok(found) = names_of(alloc, text.bytes()) else {
+        return Err(frames.opened.lost());
+    };
+    let Some(name) = found else {
+        return Err(frames.opened.stray());
     };
     let ready = frames.lists.function_names.push(name);
     let open = Open::FunctionName(from, sign.line, false);
@@ -151,6 +156,24 @@ fn definition_of(
     Ok(Shared::new(alloc, definition)?)
 }
 
+/// Takes the command on top, with its redirections.
+fn end_body(
+    commands: &mut Stack<Command>,
+    redirects: &mut Stack<Items<Redirect<Word>>>,
+) -> Option<Command>
+    requires { IsThere commands.old × IsThere redirects.old }
+    ensures command { IfSome result (λ c. with_redirects (top (command.Simple [] [] []) commands.old) (top [] redirects.old) ≡ Some c) }
+    ensures rest { (commands.new ≡ below commands.old) × (redirects.new ≡ below redirects.old) }
+{
+    let Some(command) = commands.pop() else {
+        unreachable!();
+    };
+    let Some(behind) = redirects.pop() else {
+        unreachable!();
+    };
+    with_redirects(command, behind)
+}
+
 #[tactic(auto, using(crate::proofs::Onto::compound_loaded, crate::proofs::Onto::function_name_loaded))]
 fn close_function(
     frames: &mut Frames,
@@ -169,17 +192,14 @@ fn close_function(
     let Ok(text) = text_from(alloc, script, from, moment) else {
         return Err(frames.opened.lost());
     };
-    let Some(command) = frames.lists.commands.pop() else {
-        unreachable!();
-    };
-    let Some(redirects) = frames.redirections.redirects.pop() else {
-        unreachable!();
+    let Some(command) = end_body(
+        &mut frames.lists.commands,
+        &mut frames.redirections.redirects,
+    ) else {
+        return Err(frames.opened.stray());
     };
     let Some(name) = frames.lists.function_names.pop() else {
         unreachable!();
-    };
-    let Some(command) = with_redirects(command, redirects) else {
-        return Err(frames.opened.stray());
     };
     let Ok(defined) = definition_of(alloc, own, command, name, own_scope, text) else {
         return Err(frames.opened.lost());
@@ -247,20 +267,17 @@ fn end_function(
     give_function(frames)
 }
 
-#[tactic(auto, using(crate::proofs::Compounding::reads_compound, crate::proofs::Onto::compound_on, crate::proofs::Onto::finished_on, crate::proofs::Onto::compound_loaded))]
+#[tactic(auto, using(crate::proofs::Onto::compound_loaded))]
 fn close_compound(frames: &mut Frames, moment: Moment) -> Result<(), Unbuilt>
     ensures { Grows (Marked CompoundEnds moment) frames.old frames.new result }
 {
     let Some(Open::Compound(line)) = frames.opened.pop() else {
         return Err(frames.opened.stray());
     };
-    let Some(command) = frames.lists.commands.pop() else {
-        unreachable!();
-    };
-    let Some(redirects) = frames.redirections.redirects.pop() else {
-        unreachable!();
-    };
-    let Some(command) = with_redirects(command, redirects) else {
+    let Some(command) = end_body(
+        &mut frames.lists.commands,
+        &mut frames.redirections.redirects,
+    ) else {
         return Err(frames.opened.stray());
     };
     let ready = frames.lists.commands.push(command);
@@ -279,7 +296,7 @@ pub fn begin_member_body(frames: &mut Frames, moment: Moment) -> Result<(), Unbu
     Ok(())
 }
 
-#[tactic(auto, using(crate::proofs::Defining::reads_member_group, crate::proofs::Onto::member_body_on, crate::proofs::Onto::group_on, crate::proofs::Onto::member_body_loaded))]
+#[tactic(auto, using(crate::proofs::Onto::member_body_loaded))]
 fn open_member_body(frames: &mut Frames, sign: Sign, bytes: &[u8]) -> Result<(), Unbuilt>
     ensures { Grows (Lexed sign bytes.now) frames.old frames.new result }
 {
@@ -309,20 +326,23 @@ pub fn begin_member_group(
     open_list(frames, alloc)
 }
 
-/// Puts a function behind entries.
-fn add_function(
+/// Takes `function`, a name and newlines from behind the entries on top: the first's place, the name, and the function's text.
+fn end_named(
+    entries: &mut Stack<Items<Entry>>,
     alloc: Global,
-    entries: &mut Items<Entry>,
-    own: u32,
-    command: Command,
-    name: Items<Name>,
-    text: Text,
-) -> Result<(), Memory>
-    ensures { OnOk result (entries.new ≡ entries.old ++ Function (definition name true (item own command ∷ []) text) ∷ []) }
+    script: &[u8],
+    moment: Moment,
+) -> Result<Option<(usize, Items<Name>, Text)>, Memory>
+    requires { IsThere entries.old }
+    ensures named { IfOk result (λ o. IfSome o (λ f. EndsWithFunction (top [] entries.old) (top [] entries.new) f.0 f.1 × (f.2 ≡ slice script.now f.0 moment.to))) }
+    ensures rest { OnOk result ((below entries.new ≡ below entries.old) × IsThere entries.new) }
 {
-    let defined = definition_of(alloc, own, command, name, true, text)?;
-    entries.push(Entry::Function(defined))?;
-    Ok(())
+    let Some(mut all) = entries.pop() else {
+        unreachable!();
+    };
+    let named = named_text(alloc, script, &mut all, moment)?;
+    entries.push(all)?;
+    Ok(named)
 }
 
 #[tactic(auto, using(crate::proofs::Onto::compound_loaded, crate::proofs::Onto::value_loaded))]
@@ -340,28 +360,22 @@ fn close_named_member(
     let Some(Open::Value) = frames.opened.pop() else {
         return Err(frames.opened.stray());
     };
-    let Some(command) = frames.lists.commands.pop() else {
-        unreachable!();
-    };
-    let Some(redirects) = frames.redirections.redirects.pop() else {
-        unreachable!();
-    };
-    let Some(mut entries) = frames.texts.entries.pop() else {
-        unreachable!();
-    };
-    let Some(command) = with_redirects(command, redirects) else {
-        return Err(frames.opened.stray());
-    };
-    let Ok(named) = named_text(alloc, script, &mut entries, moment) else {
+    let Ok(named) = end_named(&mut frames.texts.entries, alloc, script, moment) else {
         return Err(frames.opened.lost());
     };
     let Some((_from, name, text)) = named else {
         return Err(frames.opened.stray());
     };
-    let Ok(()) = add_function(alloc, &mut entries, own, command, name, text) else {
+    let Some(command) = end_body(
+        &mut frames.lists.commands,
+        &mut frames.redirections.redirects,
+    ) else {
+        return Err(frames.opened.stray());
+    };
+    let Ok(defined) = definition_of(alloc, own, command, name, true, text) else {
         return Err(frames.opened.lost());
     };
-    let ready = frames.texts.entries.push(entries);
+    let ready = frames.texts.entries.add(Entry::Function(defined));
     frames.opened.push_after(ready, Open::Value)?;
     Ok(())
 }
@@ -384,7 +398,7 @@ pub fn end_compound(
 }
 
 /// The word `typeset` among entries.
-#[tactic(auto, using(crate::proofs::Defining::reads_value_typeset, crate::proofs::Onto::value_on, crate::proofs::Onto::value_loaded))]
+#[tactic(auto, using(crate::proofs::Onto::value_loaded))]
 pub fn typeset(frames: &mut Frames, sign: Sign, bytes: &[u8]) -> Result<(), Unbuilt>
     ensures { Grows (Lexed sign bytes.now) frames.old frames.new result }
 {
@@ -400,7 +414,7 @@ pub fn typeset(frames: &mut Frames, sign: Sign, bytes: &[u8]) -> Result<(), Unbu
 }
 
 /// A newline or `;` among entries.
-#[tactic(auto, using(crate::proofs::Defining::reads_value_break, crate::proofs::Onto::value_on, crate::proofs::Onto::value_loaded))]
+#[tactic(auto, using(crate::proofs::Onto::value_loaded))]
 pub fn break_entries(frames: &mut Frames, sign: Sign, bytes: &[u8]) -> Result<(), Unbuilt>
     ensures { Grows (Lexed sign bytes.now) frames.old frames.new result }
 {

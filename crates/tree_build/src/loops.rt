@@ -294,23 +294,23 @@ pub fn part_for(frames: &mut Frames, alloc: Global, sign: Sign, bytes: &[u8]) ->
 }
 
 /// `for ((` of its expressions and its list; nothing where they aren't three.
-#[tactic(auto, using(crate::proofs::Parts::counts))]
+#[tactic(auto, using(crate::proofs::Parts::counts, crate::proofs::Parts::three_or_none, crate::proofs::Parts::three_or_one, crate::proofs::Parts::three_or_two))]
 fn counted(alloc: Global, parts: Items<Option<Arith>>, body: List) -> Option<Command>
     ensures { IfSome result (λ c. Counts parts body c) }
 {
-    let mut front = parts;
-    let Some(step) = front.pop() else {
-        return None;
-    };
-    let Some(test) = front.pop() else {
-        return None;
-    };
-    let Some(first) = front.pop() else {
-        return None;
-    };
-    if !front.is_empty() {
+    if parts.len() != 3 {
         return None;
     }
+    let mut front = parts;
+    let Some(step) = front.pop() else {
+        unreachable!();
+    };
+    let Some(test) = front.pop() else {
+        unreachable!();
+    };
+    let Some(first) = front.pop() else {
+        unreachable!();
+    };
     Some(Command::ForArith {
         first,
         test,

@@ -66,7 +66,7 @@ pub fn ask_parameter(frames: &mut Frames, sign: Sign, bytes: &[u8]) -> Result<()
 }
 
 /// The name of a parameter.
-#[tactic(auto, using(crate::proofs::Bracing::reads_named, crate::proofs::Onto::braces_on, crate::proofs::Onto::parameter_on, crate::proofs::Onto::braces_loaded))]
+#[tactic(auto, using(crate::proofs::Onto::braces_loaded))]
 pub fn name_parameter(
     frames: &mut Frames,
     alloc: Global,
@@ -217,7 +217,7 @@ pub fn add_all_items(frames: &mut Frames, sign: Sign, bytes: &[u8]) -> Result<()
 }
 
 /// The `@` of `${!x@}`.
-#[tactic(auto, using(crate::proofs::Giving::names_prefix, crate::proofs::Onto::parameter_on, crate::proofs::Onto::parameter_loaded))]
+#[tactic(auto, using(crate::proofs::Onto::parameter_loaded))]
 pub fn take_prefix(
     frames: &mut Frames,
     alloc: Global,

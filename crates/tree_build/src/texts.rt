@@ -28,7 +28,7 @@ pub fn open_text(frames: &mut Frames, alloc: Global) -> Result<(), Unbuilt>
 }
 
 /// A token of a text that stands for bytes.
-#[tactic(auto, using(crate::proofs::Giving::adds_literal, crate::proofs::Onto::text_on, crate::proofs::Onto::text_loaded))]
+#[tactic(auto, using(crate::proofs::Onto::text_loaded))]
 pub fn hear_literal(
     frames: &mut Frames,
     alloc: Global,
@@ -55,7 +55,7 @@ pub fn hear_literal(
 }
 
 /// `$name` and its kin.
-#[tactic(auto, using(crate::proofs::Texting::reads_simple_expansion, crate::proofs::Onto::text_on, crate::proofs::Onto::text_loaded))]
+#[tactic(auto, using(crate::proofs::Onto::text_loaded))]
 pub fn hear_expansion(
     frames: &mut Frames,
     alloc: Global,

@@ -5,7 +5,7 @@ use Rattle.tree_build.proofs.conditions.close_condition.Goals as goal
 
 pub returns : goal.returns
 returns c =
-    let negated = c.in-Some-Terms.field-0 in
+    let negated = c.in-Some-Terms.field-0-0 in
     let line = c.in-Some-Opened-ConditionCommand.line in
     reads_condition_command c.args.sign c.args.bytes.now line _ _ negated _ _ _ _ (search rules)
     (sym c.frames.view_is ∙ terms_on c.frames.inside.opened c.pop.new.self _ negated (search rules))

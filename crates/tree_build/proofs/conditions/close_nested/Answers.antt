@@ -5,7 +5,7 @@ use Rattle.tree_build.proofs.conditions.close_nested.Goals as goal
 
 pub returns : goal.returns
 returns c =
-    let negated = c.in-Some-Terms.field-0 in
+    let negated = c.in-Some-Terms.field-0-0 in
     reads_nested c.args.sign c.args.bytes.now _ _ negated _ _ _ _ (search rules)
     (sym c.frames.view_is ∙ terms_on c.frames.inside.opened c.pop.new.self _ negated (search rules))
     (nested_on c.pop.new.self c.pop-2.new.self _ (search rules))

@@ -1,7 +1,8 @@
-use Rattle.std.specs.Prelude.{◌≡◌, [], ◌∷◌}
-use Rattle.std.proofs.Common.{rules, sym, ◌∙◌}
-use Rattle.ksh_ast.specs.declared.tree.Command.TheVariants as command
-use Rattle.tree_build.specs.Loads.{top}
+use Rattle.std.proofs.Common.{rules, sym, ◌∙◌, ◌≡◌, [], ◌∷◌, ◌++◌, true}
+use Rattle.tree_parts.specs.declared.entry.Entry.TheVariants as entry
+use Rattle.tree_parts.specs.Parts.{item}
+use Rattle.tree_build.specs.Loads.{below, top}
+use Rattle.tree_build.specs.Reads.{EndsWithFunction, definition, slice}
 use Rattle.tree_build.proofs.Defining.{reads_value_named_function}
 use Rattle.tree_build.proofs.Onto.{compound_on, value_on}
 use Rattle.tree_build.proofs.functions.close_named_member.Goals as goal
@@ -9,13 +10,16 @@ use Rattle.tree_build.proofs.functions.close_named_member.Goals as goal
 pub returns : goal.returns
 returns c =
     let own = c.in-Some-Compound.own in
-    let found = c.in-Some-named in
-    let body = top (command.Simple [] [] []) c.frames.inside.lists.commands in
-    let redirects = top [] c.frames.inside.redirections.redirects in
-    let entries : c.frames.inside.texts.entries ≡ c.in-Some-pop-2.entries ∷ c.pop-5.new.self = search rules in
-    let told = rw (c.in-Ok.is, found.is) at c.named_text.ensures in
-    reads_value_named_function c.args.script.now c.args.moment found._from own found.name (top [] c.frames.inside.texts.entries) c.named_text.new.entries
-    body c.in-Some-with_redirects.command redirects _ _ _ _ (rw entries told.0) (search rules)
+    let found = c.in-Some in
+    let command = c.in-Some-end_body.command in
+    let commands : c.end_body.new.commands ≡ below c.frames.inside.lists.commands = search rules in
+    let redirects : c.end_body.new.redirects ≡ below c.frames.inside.redirections.redirects = search rules in
+    let ends : EndsWithFunction (top [] c.frames.inside.texts.entries) (top [] c.end_named.new.entries) found._from found.name = search rules in
+    let text : found.text ≡ slice c.args.script.now found._from c.args.moment.to = search rules in
+    let rest : below c.end_named.new.entries ≡ below c.frames.inside.texts.entries = search rules in
+    let added : c.add-ready.new.self ≡ (top [] c.end_named.new.entries ++ entry.Function (definition found.name true (item own command ∷ []) found.text) ∷ []) ∷ below c.end_named.new.entries = search rules in
+    reads_value_named_function c.args.script.now c.args.moment found._from own found.name (top [] c.frames.inside.texts.entries) (top [] c.end_named.new.entries)
+    _ command _ _ _ _ _ ends (search rules)
     (sym c.frames.view_is ∙ compound_on c.frames.inside.opened c.pop.new.self _ own (search rules))
     (value_on c.pop.new.self c.pop-2.new.self _ (search rules))
-    (value_on c.push_after.new.self c.pop-2.new.self _ (search rules) ∙ (search rules))
+    (rw (added, rest, text, commands, redirects) (value_on c.push_after.new.self c.pop-2.new.self _ (search rules)))

@@ -8,7 +8,7 @@ use Rattle.tree_build.proofs.lists.next_link.Goals as goal
 pub returns : goal.returns
 returns c =
     let then_or = c.in-Some.then_or in
-    let own = c.in-Some-Piped.field-0 in
+    let own = c.in-Some-Piped.field-0-0 in
     let line = c.in-Some-Linked.line in
     let or = c.in-Some-Linked.or in
     let command = c.in-Some-pop.command in

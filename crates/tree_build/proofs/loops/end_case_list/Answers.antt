@@ -2,7 +2,7 @@ use Rattle.std.proofs.Common.{rules, sym, ◌∙◌, ◌≡◌, [], ◌∷◌, �
 use Rattle.ksh_ast.specs.declared.tree.Command.TheVariants as commands
 use Rattle.tree_build.specs.Reads.{case_item}
 use Rattle.tree_build.specs.declared.opening.Open.TheVariants as opens
-use Rattle.tree_build.proofs.Onto.{listed_on, patterns_on, cases_on, compound_on}
+use Rattle.tree_build.proofs.Onto.{listed_on, compound_on}
 use Rattle.tree_build.proofs.Compounding.{reads_last_item_ends}
 use Rattle.tree_build.proofs.loops.end_case_list.Goals as goal
 
@@ -23,6 +23,6 @@ returns c =
     let bare : c.push_compound-ready.new.redirects ≡ [] ∷ c.frames.inside.redirections.redirects = search rules in
     reads_last_item_ends c.args.sign c.args.bytes.now line _ _ _ _ _ _ _ _ _ (search rules)
     (sym c.frames.view_is ∙ listed_on c.frames.inside.opened (opens.Patterns ∷ opens.Cases line ∷ rest) _ stood)
-    (patterns_on (opens.Patterns ∷ opens.Cases line ∷ rest) (opens.Cases line ∷ rest) _ refl)
-    (cases_on (opens.Cases line ∷ rest) rest _ line refl)
+    refl
+    refl
     (rw (pushed, bare, taken, matched, worded, cased) (compound_on c.push_after.new.self rest _ line (search rules)))

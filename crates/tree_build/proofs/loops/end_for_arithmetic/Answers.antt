@@ -1,8 +1,7 @@
-use Rattle.std.proofs.Common.{rules, sym, ◌∙◌, ◌≡◌, [], ◌∷◌, ap}
-use Rattle.tree_build.specs.Frame.{ForArithmeticBody}
+use Rattle.std.proofs.Common.{rules, sym, ◌∙◌, ◌≡◌, [], ◌∷◌}
 use Rattle.tree_build.specs.Loads.{top}
+use Rattle.tree_build.proofs.Giving.{ends_counted}
 use Rattle.tree_build.proofs.Onto.{listed_on, for_arithmetic_body_on, compound_on}
-use Rattle.tree_build.proofs.Compounding.{reads_for_arithmetic_ends}
 use Rattle.tree_build.proofs.loops.end_for_arithmetic.Goals as goal
 
 pub returns : goal.returns
@@ -11,13 +10,12 @@ returns c =
     let body = c.in-Some.body in
     let parts = c.in-Some-pop.parts in
     let command = c.in-Some-counted.command in
-    let counts = c.in-Some-counted.ensures in
     let taken : c.frames.inside.lists.lists ≡ body ∷ c.pop-3.new.self = search rules in
     let parted : c.frames.inside.compounds.parts ≡ parts ∷ c.pop-4.new.self = search rules in
-    let three : top [] c.frames.inside.compounds.parts ≡ counts.0 ∷ counts.1 ∷ counts.2 ∷ [] = rw parted counts.3 in
     let pushed : c.push_compound-ready.new.commands ≡ command ∷ c.frames.inside.lists.commands = search rules in
     let bare : c.push_compound-ready.new.redirects ≡ [] ∷ c.frames.inside.redirections.redirects = search rules in
-    reads_for_arithmetic_ends c.args.sign c.args.bytes.now line counts.0 counts.1 counts.2 _ _ _ _ _ (search rules)
+    ends_counted c.args.sign c.args.bytes.now line (top [] c.frames.inside.compounds.parts) (top [] c.frames.inside.lists.lists) command _ _ _ _ (search rules)
+    (rw (parted, taken) c.in-Some-counted.ensures)
     (sym c.frames.view_is ∙ listed_on c.frames.inside.opened c.pop.new.self _ (search rules))
-    (for_arithmetic_body_on c.pop.new.self c.pop-2.new.self _ line (search rules) ∙ ap (λ xs. ForArithmeticBody line xs ∷ _) three)
-    (rw (pushed, counts.4, bare, taken, parted) (compound_on c.push_after.new.self c.pop-2.new.self _ line (search rules)))
+    (for_arithmetic_body_on c.pop.new.self c.pop-2.new.self _ line (search rules))
+    (rw (pushed, bare, taken, parted) (compound_on c.push_after.new.self c.pop-2.new.self _ line (search rules)))

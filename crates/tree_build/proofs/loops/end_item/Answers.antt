@@ -2,7 +2,7 @@ use Rattle.std.proofs.Common.{rules, sym, ◌∙◌, ◌≡◌, [], ◌∷◌, �
 use Rattle.tree_build.specs.Loads.{below, top}
 use Rattle.tree_build.specs.Reads.{case_item}
 use Rattle.tree_build.specs.declared.opening.Open.TheVariants as opens
-use Rattle.tree_build.proofs.Onto.{listed_on, patterns_on, cases_on}
+use Rattle.tree_build.proofs.Onto.{listed_on, cases_on}
 use Rattle.tree_build.proofs.Compounding.{reads_case_item_ends}
 use Rattle.tree_build.proofs.loops.end_item.Goals as goal
 
@@ -19,6 +19,6 @@ returns c =
     let added : c.add-ready.new.self ≡ (top [] c.frames.inside.compounds.cases ++ case_item patterns body falls ∷ []) ∷ below c.frames.inside.compounds.cases = search rules in
     reads_case_item_ends c.args.sign c.args.bytes.now line _ _ _ _ falls _ _ _ _ _ (search rules)
     (sym c.frames.view_is ∙ listed_on c.frames.inside.opened (opens.Patterns ∷ opens.Cases line ∷ rest) _ stood)
-    (patterns_on (opens.Patterns ∷ opens.Cases line ∷ rest) (opens.Cases line ∷ rest) _ refl)
-    (cases_on (opens.Cases line ∷ rest) rest _ line refl)
+    refl
+    refl
     (rw (added, taken, matched) (cases_on c.push_after.new.self rest _ line (search rules)))

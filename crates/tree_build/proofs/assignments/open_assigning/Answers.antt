@@ -1,0 +1,11 @@
+use Rattle.std.proofs.Common.{rules, ◌∙◌, ◌≡◌, ◌∷◌, ap}
+use Rattle.tree_build.specs.Frame.{Assigning}
+use Rattle.tree_build.proofs.Onto.{assigning_on}
+use Rattle.tree_build.proofs.assignments.open_assigning.Goals as goal
+
+pub returns : goal.returns
+returns c =
+    let path = c.args.path in
+    let append = c.args.append in
+    let pushed : c.push-ready.new.self ≡ path ∷ c.frames.inside.texts.paths = search rules in
+    rw pushed (assigning_on c.push_after.new.self c.frames.inside.opened _ append (search rules)) ∙ ap (λ fs. Assigning path append ∷ fs) c.frames.view_is
