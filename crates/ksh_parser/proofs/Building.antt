@@ -1,7 +1,13 @@
 -- What is built while a script is heard.
-use Rattle.std.specs.Prelude.{◌≡◌, ℕ, List, [], ◌∷◌, Some, None, Ok}
+use Rattle.std.specs.Prelude.{◌≡◌, ℕ, List, [], ◌∷◌, Some, None, Result, Ok, Err, IfErr}
 use Rattle.std.proofs.Common.{refl, sym, subst}
 use Rattle.ksh_ast.specs.declared.tree.Item.{Item}
+use Rattle.ksh_lexer.specs.declared.fault.SyntaxFault.{SyntaxFault}
+use Rattle.ksh_scan.specs.Scan.{HasFault, IsRefused}
+use Rattle.ksh_scan.specs.declared.refusal.SyntaxRefused.{SyntaxRefused}
+use Rattle.ksh_scan.specs.declared.refusal.SyntaxRefused.TheVariants as scan
+use Rattle.ksh_parser.specs.declared.refused.Unparsed.{Unparsed}
+use Rattle.ksh_parser.specs.declared.refused.Unparsed.TheVariants.{Fault}
 use Rattle.script_notes.specs.declared.cursor.Event.{Event}
 use Rattle.script_notes.specs.declared.cursor.NotePlace.{NotePlace}
 use Rattle.script_notes.specs.declared.note.Note.{Note}
@@ -14,7 +20,7 @@ use Rattle.tree_build.specs.Frames.{Keeps, Stands}
 use Rattle.tree_build.specs.Heard.{Heard}
 use Rattle.tree_build.specs.Reads.{Reads}
 use Rattle.ksh_parser.specs.Heard.{heard, heard_before}
-use Rattle.ksh_parser.specs.Tree.{Follows, IsBuilt, IsTree}
+use Rattle.ksh_parser.specs.Tree.{Follows, IsBuilt, IsScriptText, IsTree}
 
 -- whatever is heard of the rest, with it all of the notes is heard, and the frames have read what stands before
 abbrev pub Builds : List ℕ → List (List Note) → List NotePlace → List Frame → Type 0
@@ -27,7 +33,7 @@ starts script texts places frames all_heard none empty begins es rest =
     (es, all_heard texts es rest, begins script (heard script es) (heard script es) (subst (λ fs. Stands script (heard script es) fs (heard script es)) (sym empty) nothing))
 
 pub goes_on : {A : Type 0} (script : List ℕ) (texts : List (List Note)) (e : Event) (old new : List NotePlace) (before after : List Frame) (a : A) → Hears texts (Some e) old new
-    → Follows script e before after (Ok {A} {Unbuilt} a) → Builds script texts old before → Builds script texts new after
+    → (let r : Result A Unbuilt = Ok a in Follows script e before after r) → Builds script texts old before → Builds script texts new after
 goes_on script texts e old new before after a hears follows builds es rest =
     let b = builds (e ∷ es) (hears es rest) in
     (b.0, b.1, follows (heard script b.0) (heard script es) b.2)
@@ -41,3 +47,16 @@ finishes script notes old new frames tree over whole builds =
 
 pub is_tree : (text : List ℕ) (notes : Notes) (tree : List Item) → IsNoted text notes → IsBuilt text notes tree → IsTree text tree
 is_tree text notes tree noted built = record { notes = notes; noted = noted; built = built }
+
+pub is_script : (text : List ℕ) (notes : Notes) → IsNoted text notes → IsScriptText text
+is_script text notes noted = (notes, noted)
+
+-- a fault that is told is the text's
+pub told : (text : List ℕ) (g : SyntaxFault) → HasFault text g → (f : SyntaxFault) → (let r : Result (List Item) Unparsed = Err (Fault g) in r ≡ Err (Fault f)) → HasFault text f
+told text g has f e = subst (λ x. HasFault text x) (let s : g ≡ f = cc in s) has
+
+-- and what the notes are refused for
+pub of_refused : {A : Type 0} (text : List ℕ) (r : Result A SyntaxRefused) (x : SyntaxRefused) (g : SyntaxFault) → IfErr r (λ y. IsRefused text y) → r ≡ Err x → x ≡ scan.Fault g → HasFault text g
+of_refused text (Ok a) x g h e f = absurd cc
+of_refused text (Err (scan.Fault k)) x g h e f = subst (λ z. HasFault text z) (let s : k ≡ g = cc in s) h
+of_refused text (Err scan.Memory) x g h e f = absurd cc

@@ -189,7 +189,7 @@ fn no_root<Po, A>() -> Ended<Po, A>
 /// comes exactly where the words have that fault, `SourceFault` exactly where a read of this call
 /// failed, `Syntax` with the text's first fault, and each of them has written one line on
 /// handle 2; else the root is a run of the script's commands, and `Meant` and `Spent` are the meaning's.
-/// `NotBuilt` may come for scripts alone; none is known for which it does. With `-n` the script is checked
+/// `NotBuilt` may come for scripts alone; no tree is built of a few of them yet. With `-n` the script is checked
 /// alone: `Meant` has the status 0 then, and nothing was asked. Want of memory may come at each step.
 pub fn run_shell<
     S: Source,
