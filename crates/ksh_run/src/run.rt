@@ -15,8 +15,7 @@ use crate::texts::{not_built_text, source_text};
 use cmd_eval::run_job;
 use kernel_ask::{Port, World};
 use ksh_base::{
-    Plan, ReadRefused, ScriptFrom, ShellName, Source, Text, WordsRefused, read_script,
-    read_words,
+    Plan, ReadRefused, ScriptFrom, ShellName, Source, Text, WordsRefused, read_script, read_words,
 };
 use ksh_program::{Unparsed, read_program};
 use ksh_script::List;

@@ -1,8 +1,8 @@
 //! Scripts that each have a tree, and some that have a fault.
-use ksh_parser::{Unparsed, parse_script};
 use ksh_ast::Command;
 use ksh_base::Place;
 use ksh_lexer::{SyntaxFault, SyntaxKind};
+use ksh_parser::{Unparsed, parse_script};
 use std::test::Fail;
 
 #[test]

@@ -393,4 +393,3 @@ member_body_on os os1 b h = ap (λ x. frames_of x b) h
 
 pub member_body_loaded : (os os1 : List Open) (b : Loads) → os ≡ opens.Opened opening.MemberBody ∷ os1 → Loaded os b → Loaded os1 b
 member_body_loaded os os1 b h l = subst (λ x. Loaded x b) h l
-

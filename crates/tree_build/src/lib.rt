@@ -24,47 +24,108 @@ mod texts;
 mod unbuilt;
 mod words;
 
-pub use assignments::{
-    assign_element, assign_value, begin_assigned, begin_body, begin_element, begin_redirection,
-    close_value, end_as_word, end_body, open_value,
-};
-pub use begins::{
-    begin_chain, begin_pipeline, begin_simple, end_simple, open_list, open_operands, open_patterns,
-    open_terms,
-};
-pub use compounds::{
-    begin_arithmetic_command, begin_list_command, close_arithmetic_command, close_group,
-    close_subshell, do_loop, elif, end_loop, fi, open_compound, otherwise_list, then,
-};
-pub use conditions::{
-    alternative, begin_condition, begin_nested, close_condition, close_nested, end_term, not_term,
-};
+pub use assignments::assign_element;
+pub use assignments::assign_value;
+pub use assignments::begin_assigned;
+pub use assignments::begin_body;
+pub use assignments::begin_element;
+pub use assignments::begin_redirection;
+pub use assignments::close_value;
+pub use assignments::end_as_word;
+pub use assignments::end_body;
+pub use assignments::open_value;
+pub use begins::begin_chain;
+pub use begins::begin_pipeline;
+pub use begins::begin_simple;
+pub use begins::end_simple;
+pub use begins::open_list;
+pub use begins::open_operands;
+pub use begins::open_patterns;
+pub use begins::open_terms;
+pub use compounds::begin_arithmetic_command;
+pub use compounds::begin_list_command;
+pub use compounds::close_arithmetic_command;
+pub use compounds::close_group;
+pub use compounds::close_subshell;
+pub use compounds::do_loop;
+pub use compounds::elif;
+pub use compounds::end_loop;
+pub use compounds::fi;
+pub use compounds::open_compound;
+pub use compounds::otherwise_list;
+pub use compounds::then;
+pub use conditions::alternative;
+pub use conditions::begin_condition;
+pub use conditions::begin_nested;
+pub use conditions::close_condition;
+pub use conditions::close_nested;
+pub use conditions::end_term;
+pub use conditions::not_term;
 pub use frames::Frames;
-pub use functions::{
-    begin_member_body, begin_member_group, break_entries, end_compound, function_name,
-    name_function, name_member, typeset,
-};
-pub use lists::{bar, end_command, end_list, join, negate};
-pub use loops::{
-    begin_for_arithmetic, case_in, close_for_part, do_for, end_case, end_case_list, end_for,
-    end_for_arithmetic, end_item, end_words, for_in, for_name, part_for,
-};
+pub use functions::begin_member_body;
+pub use functions::begin_member_group;
+pub use functions::break_entries;
+pub use functions::end_compound;
+pub use functions::function_name;
+pub use functions::name_function;
+pub use functions::name_member;
+pub use functions::typeset;
+pub use lists::bar;
+pub use lists::end_command;
+pub use lists::end_list;
+pub use lists::join;
+pub use lists::negate;
+pub use loops::begin_for_arithmetic;
+pub use loops::case_in;
+pub use loops::close_for_part;
+pub use loops::do_for;
+pub use loops::end_case;
+pub use loops::end_case_list;
+pub use loops::end_for;
+pub use loops::end_for_arithmetic;
+pub use loops::end_item;
+pub use loops::end_words;
+pub use loops::for_in;
+pub use loops::for_name;
+pub use loops::part_for;
 pub use opening::Opening;
-pub use parameters::{
-    add_all_items, add_member, ask_parameter, begin_form, begin_subscript, close_key,
-    close_subscript, end_subscript, name_parameter, open_braces, part_form, special_parameter,
-    take_prefix,
-};
+pub use parameters::add_all_items;
+pub use parameters::add_member;
+pub use parameters::ask_parameter;
+pub use parameters::begin_form;
+pub use parameters::begin_subscript;
+pub use parameters::close_key;
+pub use parameters::close_subscript;
+pub use parameters::end_subscript;
+pub use parameters::name_parameter;
+pub use parameters::open_braces;
+pub use parameters::part_form;
+pub use parameters::special_parameter;
+pub use parameters::take_prefix;
 pub use place::Place;
-pub use quiet::{pass_mark, pass_token};
-pub use release::{release_frames, release_list};
+pub use quiet::pass_mark;
+pub use quiet::pass_token;
+pub use release::release_frames;
+pub use release::release_list;
 pub use script::slice;
-pub use tables::{breaks, ends_item, ends_part, is_word};
-pub use texts::{
-    begin_arithmetic, begin_substitution, close_formed, close_number, close_plain,
-    close_substitution, hear_expansion, hear_literal, open_text,
-};
+pub use tables::breaks;
+pub use tables::ends_item;
+pub use tables::ends_part;
+pub use tables::is_word;
+pub use texts::begin_arithmetic;
+pub use texts::begin_substitution;
+pub use texts::close_formed;
+pub use texts::close_number;
+pub use texts::close_plain;
+pub use texts::close_substitution;
+pub use texts::hear_expansion;
+pub use texts::hear_literal;
+pub use texts::open_text;
 pub use unbuilt::Unbuilt;
-pub use words::{
-    close_pair, close_word, give_assignment, give_redirection, push_word, settle_word, start_word,
-};
+pub use words::close_pair;
+pub use words::close_word;
+pub use words::give_assignment;
+pub use words::give_redirection;
+pub use words::push_word;
+pub use words::settle_word;
+pub use words::start_word;

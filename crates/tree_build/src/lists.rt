@@ -103,9 +103,7 @@ fn first_link(frames: &mut Frames, alloc: Global, sign: Sign, bytes: &[u8]) -> R
         return Err(frames.opened.stray());
     };
     let ready = frames.lists.links.push(Items::new(alloc));
-    frames
-        .opened
-        .push_after(ready, Open::Linked(own, then_or))?;
+    frames.opened.push_after(ready, Open::Linked(own, then_or))?;
     Ok(())
 }
 

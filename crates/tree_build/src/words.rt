@@ -22,9 +22,7 @@ fn open_word(frames: &mut Frames, sign: Sign, bytes: &[u8]) -> Result<(), Unbuil
     let Some(assigns) = starts_word(sign.kind) else {
         return Err(frames.opened.stray());
     };
-    frames
-        .opened
-        .push_after(Ok(()), Open::Opened(Opening::WordStart(sign.from, assigns)))?;
+    frames.opened.push_after(Ok(()), Open::Opened(Opening::WordStart(sign.from, assigns)))?;
     Ok(())
 }
 
