@@ -1,5 +1,5 @@
 -- How a run ends from its words, by what it does with the script's text.
-use Rattle.std.proofs.Common.{◌≡◌, ℕ, ◌⊎◌, inl, inr, List, [], Option, Some, None, Result, Ok, Err, IfOk, refl, Bool, true, false}
+use Rattle.std.proofs.Common.{◌≡◌, ℕ, ◌⊎◌, inl, inr, List, [], Option, Some, None, Result, Ok, Err, IfOk, refl, subst, Bool, true, false}
 use Rattle.ksh_base.specs.Words.{words_plan}
 use Rattle.ksh_base.specs.declared.words.Plan.{Plan}
 use Rattle.ksh_base.specs.declared.words.UsageFault.{UsageFault}
@@ -9,12 +9,14 @@ use Rattle.ksh_scan.specs.declared.refusal.SyntaxRefused.{SyntaxRefused}
 use Rattle.ksh_scan.specs.declared.refusal.SyntaxRefused.TheVariants.{Fault}
 use Rattle.ksh_run.specs.Texts.{source_line, syntax_line, usage_line}
 use Rattle.kernel_ask.specs.Seen.{Seen}
+use Rattle.ksh_parser.specs.declared.refused.Unparsed.{Unparsed}
+use Rattle.ksh_parser.specs.declared.refused.Unparsed.TheVariants as unparsed
 use Rattle.ksh_program.specs.Program.{IsProgram}
 use Rattle.ksh_run.specs.Script.{IsText}
 use Rattle.ksh_run.specs.Checks.{ChecksBy, ChecksPlan, ChecksText, RefusesBy, RefusesText}
 use Rattle.ksh_run.specs.declared.check.Checked.{Checked}
 use Rattle.ksh_run.specs.declared.check.Checked.TheVariants.{Fine, Refused}
-use Rattle.ksh_run.specs.Top.{EndsBoth, EndsBy, EndsCheck, EndsList, EndsPlan, HasRoot, IsFine, IsLost, IsRun, IsUnasked, RanOut, Refuses}
+use Rattle.ksh_run.specs.Top.{EndsBoth, EndsBy, EndsCheck, EndsList, EndsPlan, EndsText, HasRoot, IsFine, IsLost, IsRun, IsUnasked, RanOut, Refuses}
 use Rattle.ksh_run.specs.declared.ended.Ended.{Ended}
 use Rattle.ksh_run.specs.declared.ended.Why.{Why}
 use Rattle.ksh_run.specs.declared.ended.Why.TheVariants.{Meant, Usage, Syntax, NotBuilt, SourceFault, Spent, Memory}
@@ -90,6 +92,12 @@ module _ {Po A : Type 0} (sees : Po → Seen Start) where
   pub refused_check : (text : List ℕ) (f : SyntaxFault) (x : SyntaxRefused) (e : Ended Po A) → x ≡ Fault f → scan.IsRefused text x → Refuses sees (Syntax f) (syntax_line f) 2 e → EndsCheck sees text e
   refused_check text f x e is h (inl r) = inr (inl (f, rw is at h, r.0, r.1, r.2))
   refused_check text f x e is h (inr l) = inr (inr l)
+
+  -- a text that is to be run and has that fault
+  pub refused_text : {B : Type 0} (budget : ℕ) (text : List ℕ) (f : SyntaxFault) (r : Result B Unparsed) (x : Unparsed) (e : Ended Po A)
+      → ((k : SyntaxFault) → r ≡ Err (unparsed.Fault k) → scan.HasFault text k) → r ≡ Err x → x ≡ unparsed.Fault f → Refuses sees (Syntax f) (syntax_line f) 2 e → EndsText sees budget text e
+  refused_text budget text f r x e has is told (inl h) = inr (inl (f, has f (subst (λ u. r ≡ Err u) told is), h.0, h.1, h.2))
+  refused_text budget text f r x e has is told (inr l) = inr (inr (inr l))
 
 -- what a check says of a text that was read
 refused_by : (words : List (List ℕ)) (plan : Plan) (left : Option (List ℕ)) (before now : ℕ) (text : List ℕ) (status : ℕ) (why : Why) (line : List ℕ)
