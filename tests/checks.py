@@ -2,7 +2,8 @@
 
 A table is a file NAME.rows of lines `EXPECTED | SCRIPT`; other lines are empty or begin with `#`. EXPECTED is `fine`, or a
 syntax fault as `KIND LINE BYTE`. In SCRIPT \\n, \\t, \\\\ and \\xHH stand for bytes, and \\*N{TEXT\\} for N times TEXT. A script goes
-in by `-c`, or by a file where it holds a NUL byte. Nothing may run: standard output must be empty.
+in by `-c`, or by a file where it holds a NUL byte. Nothing may run: standard output must be empty. Then the script is run without `-n`: one
+with a fault tells the same, and of one without a tree must be built, whatever its commands do then.
 Usage: checks.py PROGRAM FOLDER
 """
 import os
@@ -34,14 +35,18 @@ def wanted(expected):
     return 2, f"kshtree: syntax fault {KINDS.index(kind) + 1} at line {line}, byte {byte}: {kind}\n".encode()
 
 
-def check(program, script):
+def run(program, options, script):
     with tempfile.TemporaryDirectory() as folder:
         words = ["-c", script]
         if b"\0" in script:
             words = ["script"]
             with open(os.path.join(folder, "script"), "wb") as out:
                 out.write(script)
-        return subprocess.run([program, "-n", *words], cwd=folder, capture_output=True, timeout=60, check=False)
+        return subprocess.run([program, *options, *words], cwd=folder, capture_output=True, timeout=60, check=False)
+
+
+def is_built(ran):
+    return b"syntax fault" not in ran.stderr and b"the script is not built" not in ran.stderr
 
 
 def main():
@@ -51,12 +56,14 @@ def main():
         if not file.endswith(".rows"):
             continue
         for number, expected, script in read_rows(os.path.join(folder, file)):
-            ran = check(program, script)
-            if (ran.returncode, ran.stderr, ran.stdout) == (*wanted(expected), b""):
-                passed += 1
-            else:
-                failed += 1
-                print(f"FAILED {file}:{number}: expected {expected}, got status {ran.returncode}, {ran.stderr!r}, {ran.stdout!r}")
+            for options in (["-n"], []):
+                ran = run(program, options, script)
+                told = (ran.returncode, ran.stderr, ran.stdout) == (*wanted(expected), b"")
+                if told or not options and expected == "fine" and is_built(ran):
+                    passed += 1
+                else:
+                    failed += 1
+                    print(f"FAILED {file}:{number}{' -n' if options else ''}: expected {expected}, got status {ran.returncode}, {ran.stderr!r}, {ran.stdout!r}")
     print(f"{passed} checks passed, {failed} failed")
     return 1 if failed else 0
 
