@@ -53,7 +53,7 @@ fn each_form_has_a_tree(rt: HostRuntime) -> Result<(), Fail> {
     let mut built = 0u32;
     for script in scripts {
         match parse_script(alloc, script) {
-            Ok(_) => built += 1,
+            Ok(_) => built = built.saturating_add(1),
             Err(Unparsed::Fault(_)) => {}
             Err(why) => return Err(why.into()),
         }
