@@ -1,0 +1,5 @@
+pub mod Exact
+pub mod Forks
+pub mod Noted
+pub mod Paths
+pub mod Sights
