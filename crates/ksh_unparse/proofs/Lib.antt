@@ -1,0 +1,4 @@
+pub mod Stack
+pub mod Papers
+pub mod Tried
+pub mod Levels
