@@ -1,4 +1,4 @@
-//! Trees that the lines of the input ask for: how many nodes each has, and what it equals.
+//! Trees that the lines of the input ask for: how many nodes each has, what it equals, and how it is written.
 #![tactic(auto)]
 
 mod sample;
@@ -7,6 +7,8 @@ use crate::sample::{deep, number, simple};
 use ast_equal::{scripts_equal, words_equal};
 use ast_size::{script_size, word_size};
 use ksh_arith::parse_arith;
+use ksh_base::Text;
+use ksh_unparse::write_script;
 use std::alloc::AllocGlobal;
 use std::io::Print;
 
@@ -32,6 +34,18 @@ fn report_simple(rt: &(impl Print + AllocGlobal), line: &str, text: &[u8]) -> an
     let same = scripts_equal(alloc, &script, &simple(alloc, text, false)?)?;
     let quoted = scripts_equal(alloc, &script, &simple(alloc, text, true)?)?;
     println!(rt; "{line}: {size} nodes, equal to itself {same}, with a quoted word {quoted}")?;
+    Ok(())
+}
+
+/// `text TEXT`: the canonical text of both, the word bare and quoted.
+fn report_text(rt: &(impl Print + AllocGlobal), line: &str, text: &[u8]) -> anyhow::Result<()> {
+    let alloc = rt.alloc();
+    let mut out = Text::empty(alloc);
+    write_script(alloc, &simple(alloc, text, false)?, &mut out)?;
+    write_script(alloc, &simple(alloc, text, true)?, &mut out)?;
+    if let Ok(written) = std::str::from_utf8(out.bytes()) {
+        println!(rt; "{line}:\n{written}")?;
+    }
     Ok(())
 }
 
@@ -64,6 +78,9 @@ fn report(rt: &(impl Print + AllocGlobal), line: &str) -> anyhow::Result<()> {
     }
     if kind == "simple" {
         return report_simple(rt, line, rest.as_bytes());
+    }
+    if kind == "text" {
+        return report_text(rt, line, rest.as_bytes());
     }
     match rest.parse::<u32>() {
         Ok(depth) => report_deep(rt, line, depth),
