@@ -1,6 +1,7 @@
 -- What a token is for the grammar.
 use Rattle.std.specs.Prelude.{ℕ, ◌-◌, Bool, true, false, ◌||◌, ◌&&◌, ◌==◌, List, [], ◌∷◌, length, take, drop, slice_get, Option, Some, None, if◌then◌else◌, codes, bytes_eq}
 use Rattle.ksh_lexer.specs.Bytes.{is, is_blank}
+use Rattle.ksh_lexer.specs.Names.{is_path}
 use Rattle.ksh_lexer.specs.declared.kind.Token.{Token}
 use Rattle.ksh_lexer.specs.declared.kind.TokenKind.{TokenKind}
 use Rattle.ksh_lexer.specs.declared.kind.TokenKind.TheVariants as token
@@ -16,7 +17,7 @@ use Rattle.ksh_syntax.specs.declared.kind.Kind.{Kind}
 use Rattle.ksh_syntax.specs.declared.kind.Kind.TheVariants as kind
 use Rattle.ksh_syntax.specs.declared.kind.Mode.{Mode}
 use Rattle.ksh_syntax.specs.declared.kind.Mode.TheVariants as mode
-use Rattle.ksh_kinds.specs.Words.{is_assignment, is_path, path_front, word_kind}
+use Rattle.ksh_kinds.specs.Words.{is_assignment, path_front, word_kind}
 
 abbrev pub operator_kind : Operator → Kind
 operator_kind operator.DoubleSemicolon = kind.DoubleSemicolon

@@ -1,6 +1,7 @@
 -- What a whole word of plain bytes is for the grammar.
 use Rattle.std.specs.Prelude.{ℕ, Bool, true, false, ◌||◌, ◌&&◌, ◌==◌, not, List, [], ◌∷◌, length, take, drop, Option, Some, None, if◌then◌else◌, codes, bytes_eq}
-use Rattle.ksh_lexer.specs.Bytes.{starts_name, in_name}
+use Rattle.ksh_lexer.specs.Bytes.{in_name}
+use Rattle.ksh_lexer.specs.Names.{is_path}
 use Rattle.ksh_syntax.specs.declared.kind.Kind.{Kind}
 use Rattle.ksh_syntax.specs.declared.kind.Kind.TheVariants as kind
 
@@ -70,21 +71,6 @@ test w =
     if bytes_eq w (codes "-gt") then Some kind.Binary else
     if bytes_eq w (codes "-ge") then Some kind.Binary else
     None
-
-abbrev mutual
-  -- names with dots between them
-  pub are_names : List ℕ → Bool
-  are_names [] = false
-  are_names (b ∷ bs) = starts_name b && are_more bs
-
-  -- the rest of a name, and further names behind dots
-  pub are_more : List ℕ → Bool
-  are_more [] = true
-  are_more (b ∷ bs) = if b == 46 then are_names bs else in_name b && are_more bs
-
--- a path: names with dots between them, perhaps those below `.sh`
-abbrev pub is_path : List ℕ → Bool
-is_path w = are_names w || (bytes_eq (take 4 w) (codes ".sh.") && are_names (drop 1 w))
 
 abbrev pub has_dot : List ℕ → Bool
 has_dot [] = false

@@ -1,9 +1,11 @@
 //! What tokens are for the grammar.
 #![tactic(auto)]
 
+mod laws;
 mod tokens;
 mod words;
 
+pub use laws::{no_fronts, spells_kinds};
 pub use tokens::kind_of;
 pub use words::{is_assignment, word_kind};
 

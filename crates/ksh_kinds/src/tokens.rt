@@ -2,8 +2,8 @@
 ghost use Rattle.std.specs.Prelude.{◌≡◌, ◌≤◌, length};
 ghost use Rattle.ksh_kinds.specs.Tokens.{assigns_nothing, bare_kind, form_kind, is_bare, kind_by, kind_of, may_assign, operator_kind, parts, redirect_kind};
 
-use crate::words::{is_assignment, is_path, path_len, word_kind};
-use ksh_lexer::{Form, Operator, Redirection, Token, TokenKind};
+use crate::words::{is_assignment, path_len, word_kind};
+use ksh_lexer::{Form, Operator, Redirection, Token, TokenKind, is_path};
 use ksh_syntax::{Kind, Mode};
 
 /// What a token of the text is, which was read in that mode.

@@ -1,8 +1,9 @@
 //! What words are for the grammar.
 ghost use Rattle.std.specs.Prelude.{◌≡◌, ◌≤◌, length, take};
 ghost use Rattle.ksh_lexer.specs.Bytes.{in_name, starts_name};
-ghost use Rattle.ksh_kinds.specs.Words.{are_more, are_names, assigns, has_dot, is_assignment, is_path, known, long_known, path_front, shape, short_known, test, word_kind};
+ghost use Rattle.ksh_kinds.specs.Words.{assigns, has_dot, is_assignment, known, long_known, path_front, shape, short_known, test, word_kind};
 
+use ksh_lexer::is_path;
 use ksh_syntax::Kind;
 
 /// The kind of a whole word of plain bytes, where assignments are looked for or not.
@@ -152,34 +153,6 @@ pub(crate) fn path_len(word: &[u8]) -> usize
         }
     }
     word.len()
-}
-
-/// Whether the bytes are names with dots between them, perhaps those below `.sh`.
-pub(crate) fn is_path(word: &[u8]) -> bool
-    ensures { result ≡ is_path word.now }
-{
-    match word {
-        [b'.', b's', b'h', b'.', ..] => are_names(&word[1..]),
-        _ => are_names(word),
-    }
-}
-
-fn are_names(word: &[u8]) -> bool
-    ensures { result ≡ are_names word.now }
-{
-    let mut begins = true;
-    for byte in word {
-        let fits = if begins {
-            starts_name(*byte)
-        } else {
-            in_name(*byte) || *byte == b'.'
-        };
-        if !fits {
-            return false;
-        }
-        begins = *byte == b'.';
-    }
-    !begins
 }
 
 fn has_dot(word: &[u8]) -> bool

@@ -1,6 +1,8 @@
 -- Pieces behind others.
-use Rattle.std.specs.Prelude.{◌≡◌, ℕ, ◌+◌, ◌<◌, ◌↔◌, Bool, true, false, List, [], ◌∷◌, ◌++◌, drop, length, remove, slice_get, Some, IsTrue, if◌then◌else◌}
+use Rattle.std.specs.Prelude.{◌≡◌, ℕ, ◌+◌, ◌<◌, ◌↔◌, Bool, true, false, List, [], ◌∷◌, ◌++◌, drop, length, nat_lt, remove, slice_get, Some, IsTrue, if◌then◌else◌}
 use Rattle.std.proofs.Common.{refl, sym, ◌∙◌, ap, append_assoc, append-nil, arith}
+use Rattle.std.specs.Char.{is_ascii_digit}
+use Rattle.std.proofs.lemmas.Bool.Decides.{nat_tests}
 use Rattle.std.proofs.lemmas.List.{drop_all}
 use Rattle.ksh_ast.specs.declared.tree.Command.{Command}
 use Rattle.ksh_ast.specs.declared.tree.Command.TheVariants as command
@@ -64,3 +66,6 @@ pipeline (m ∷ ms) line c e h f = refl
 
 pub digit_read : (d byte n : ℕ) → 48 + d ≡ byte → byte ≡ 48 + n → d ≡ n
 digit_read d byte n e f = omega arith
+
+pub no_digit : (n byte : ℕ) → byte ≡ 48 + n → nat_lt n 10 ≡ true → is_ascii_digit byte ≡ false → nat_lt n 10 ≡ false
+no_digit n byte e h d = absurd (let f : ⊥ = grind (arith, nat_tests) in f)

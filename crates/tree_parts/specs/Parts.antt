@@ -1,5 +1,5 @@
 -- What single tokens and whole texts give.
-use Rattle.std.specs.Prelude.{ℕ, ◌-◌, ◌==◌, Bool, true, false, ◌&&◌, List, [], ◌∷◌, ◌++◌, drop, take, length, map, Option, Some, None, Result, Ok, Err, if◌then◌else◌, codes, bytes_eq}
+use Rattle.std.specs.Prelude.{ℕ, ◌-◌, ◌==◌, nat_lt, Bool, true, false, ◌&&◌, ◌||◌, List, [], ◌∷◌, ◌++◌, drop, take, length, map, Option, Some, None, Result, Ok, Err, if◌then◌else◌, codes, bytes_eq}
 use Rattle.arith_tree.specs.declared.expr.ArithExpr.{ArithExpr}
 use Rattle.ksh_arith.specs.declared.fault.ArithRefused.{ArithRefused}
 use Rattle.ksh_arith.specs.Grammar.{is_blank, parsed}
@@ -40,8 +40,9 @@ use Rattle.ksh_ast.specs.declared.tree.Test.TheVariants as test
 use Rattle.ksh_ast.specs.declared.tree.TreePart.{TreePart, TreePart-F, out-TreePart}
 use Rattle.ksh_ast.specs.declared.tree.TreePart.TheVariants as part
 use Rattle.ksh_ast.specs.declared.tree.TreePath.{TreePath}
+use Rattle.ksh_base.specs.Name.{dot_sh}
 use Rattle.ksh_kinds.specs.Words.{path_front}
-use Rattle.ksh_lexer.specs.Bytes.{starts_name}
+use Rattle.ksh_lexer.specs.Bytes.{in_name, starts_name}
 use Rattle.ksh_lexer.specs.declared.kind.Descriptor.{Descriptor}
 use Rattle.ksh_lexer.specs.declared.kind.Descriptor.TheVariants as descriptor
 use Rattle.ksh_lexer.specs.declared.kind.Form.{Form}
@@ -55,6 +56,23 @@ use Rattle.tree_parts.specs.declared.asked.Asked.TheVariants as asked
 use Rattle.tree_parts.specs.Literals.{literal, with_literal, joined}
 
 -- ---- names and paths
+
+abbrev pub are_in_name : List ℕ → Bool
+are_in_name [] = true
+are_in_name (b ∷ bs) = in_name b && are_in_name bs
+
+-- a letter or `_`, then letters, digits and `_`
+abbrev pub is_own_name : List ℕ → Bool
+is_own_name [] = false
+is_own_name (b ∷ bs) = starts_name b && are_in_name bs
+
+-- the one other name is `.sh`
+abbrev pub is_name : List ℕ → Bool
+is_name bytes = bytes_eq bytes dot_sh || is_own_name bytes
+
+abbrev pub all_names : List (List ℕ) → Bool
+all_names [] = true
+all_names (name ∷ names) = is_name name && all_names names
 
 abbrev pub to_first : ℕ → List (List ℕ) → List (List ℕ)
 to_first b [] = (b ∷ []) ∷ []
@@ -102,15 +120,19 @@ path_word path = with_parts_text (literal path.name false) path.parts
 abbrev pub assign : TreePath → Bool → List Piece → Assign
 assign path append ps = record { path = path; append = append; value = value.Word ps }
 
+-- a value is assigned to a path alone
+abbrev pub assign_to : List ℕ → Bool → List Piece → Option Assign
+assign_to path append ps = if all_names (names_of path) then Some (assign (path_of path) append ps) else None
+
 -- behind a `+` behind the path
 abbrev pub appended : List ℕ → List ℕ → List Piece → Option Assign
 appended path [] ps = None
-appended path (b ∷ bs) ps = if b == 61 then Some (assign (path_of path) true (literal bs false ++ ps)) else None
+appended path (b ∷ bs) ps = if b == 61 then assign_to path true (literal bs false ++ ps) else None
 
 -- what stands behind the path: `=` or `+=`, and the front of the value
 abbrev pub assigned : List ℕ → List ℕ → List Piece → Option Assign
 assigned path [] ps = None
-assigned path (b ∷ bs) ps = if b == 61 then Some (assign (path_of path) false (literal bs false ++ ps)) else if b == 43 then appended path bs ps else None
+assigned path (b ∷ bs) ps = if b == 61 then assign_to path false (literal bs false ++ ps) else if b == 43 then appended path bs ps else None
 
 -- the assignment that a word is
 abbrev pub assignment_of : List Piece → Option Assign
@@ -122,6 +144,11 @@ abbrev pub adds : List ℕ → Bool
 adds bytes = bytes_eq (drop (length (path_front bytes)) bytes) (codes "+=")
 
 -- ---- parameters
+
+-- what begins like a name is one
+abbrev pub is_param : List ℕ → Bool
+is_param [] = true
+is_param (b ∷ bs) = if starts_name b then is_name (b ∷ bs) else true
 
 -- `$name`, or a special parameter
 abbrev pub simple_param : List ℕ → ParamOf
@@ -234,11 +261,21 @@ redirect_form operator.CopyOutput = Some redirect.DupOutput
 redirect_form operator.Output = Some redirect.Write
 redirect_form _ = None
 
+-- the name of an operator's descriptor, which stands between the token's first byte and its end
+abbrev pub descriptor_name : ℕ → ℕ → List ℕ → List ℕ
+descriptor_name end from bytes = take (end - from - 1) (drop 1 bytes)
+
+-- one digit, or a name
+abbrev pub is_descriptor : Descriptor → ℕ → List ℕ → Bool
+is_descriptor descriptor.Default from bytes = true
+is_descriptor (descriptor.Digit n) from bytes = nat_lt n 10
+is_descriptor (descriptor.Named end) from bytes = is_name (descriptor_name end from bytes)
+
 -- the descriptor of an operator that begins at a place
 abbrev pub redirect_to : Descriptor → ℕ → List ℕ → RedirectTo
 redirect_to descriptor.Default from bytes = to.Usual
 redirect_to (descriptor.Digit n) from bytes = to.Digit n
-redirect_to (descriptor.Named end) from bytes = to.Var (take (end - from - 1) (drop 1 bytes))
+redirect_to (descriptor.Named end) from bytes = to.Var (descriptor_name end from bytes)
 
 abbrev pub redirection : RedirectTo → RedirectForm → List Piece → Redirect (List Piece)
 redirection t f ps = record { to = t; form = f; word = ps }

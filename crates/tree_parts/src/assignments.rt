@@ -1,7 +1,7 @@
 //! Assignments.
-ghost use Rattle.std.specs.Prelude.{◌≡◌, ◌++◌, ◌∷◌, [], IfOk, IfSome, Some, MatchOption, false};
+ghost use Rattle.std.specs.Prelude.{◌≡◌, ◌++◌, ◌∷◌, [], IfOk, MatchOption, false};
 ghost use Rattle.tree_parts.specs.Literals.{literal};
-ghost use Rattle.tree_parts.specs.Parts.{adds, appended, assign, assigned, assignment_of, path_of};
+ghost use Rattle.tree_parts.specs.Parts.{adds, appended, assign_to, assigned, assignment_of};
 
 use crate::literals::literal_word;
 use crate::names::{behind_path, path_front, path_of};
@@ -29,7 +29,7 @@ fn in_front(alloc: Global, bytes: &[u8], rest: Word) -> Result<Word, Memory>
     Ok(word)
 }
 
-/// The assignment of a value, which begins with these bytes, to a path; nothing where it is no path.
+/// The assignment of a value, which begins with these bytes, to a path; nothing exactly where it is no path.
 fn made(
     alloc: Global,
     path: &[u8],
@@ -37,7 +37,7 @@ fn made(
     bytes: &[u8],
     rest: Word,
 ) -> Result<Option<Assign>, Memory>
-    ensures { IfOk result (λ o. IfSome o (λ a. a ≡ assign (path_of path.now) append (literal bytes.now false ++ rest))) }
+    ensures { IfOk result (λ o. o ≡ assign_to path.now append (literal bytes.now false ++ rest)) }
 {
     let Some(path) = path_of(alloc, path)? else {
         return Ok(None);
@@ -50,20 +50,30 @@ fn made(
     }))
 }
 
+/// The assignment to a path, behind which a `+`, these bytes and pieces stand.
+fn appended(alloc: Global, path: &[u8], behind: &[u8], rest: Word) -> Result<Option<Assign>, Memory>
+    ensures { IfOk result (λ o. o ≡ appended path.now behind.now rest) }
+{
+    match behind.split_first() {
+        Some((b'=', value)) => made(alloc, path, true, value, rest),
+        _ => Ok(None),
+    }
+}
+
 /// The assignment to a path, behind which these bytes and pieces stand.
 fn assigned(alloc: Global, path: &[u8], behind: &[u8], rest: Word) -> Result<Option<Assign>, Memory>
-    ensures { IfOk result (λ o. IfSome o (λ a. assigned path.now behind.now rest ≡ Some a)) }
+    ensures { IfOk result (λ o. o ≡ assigned path.now behind.now rest) }
 {
-    match behind {
-        [b'=', value @ ..] => made(alloc, path, false, value, rest),
-        [b'+', b'=', value @ ..] => made(alloc, path, true, value, rest),
+    match behind.split_first() {
+        Some((b'=', value)) => made(alloc, path, false, value, rest),
+        Some((b'+', more)) => appended(alloc, path, more, rest),
         _ => Ok(None),
     }
 }
 
 /// The assignment that a word is which begins with this piece.
 fn assigned_by(alloc: Global, first: Piece, rest: Word) -> Result<Option<Assign>, Memory>
-    ensures { IfOk result (λ o. IfSome o (λ a. assignment_of (first ∷ rest) ≡ Some a)) }
+    ensures { IfOk result (λ o. o ≡ assignment_of (first ∷ rest)) }
 {
     match first {
         Piece::Literal { text, quoted } => {
@@ -77,9 +87,9 @@ fn assigned_by(alloc: Global, first: Piece, rest: Word) -> Result<Option<Assign>
     }
 }
 
-/// The assignment that a word is; nothing where it is none, or assigns to no path.
+/// The assignment that a word is; nothing exactly where it is none, or assigns to no path.
 pub fn assignment_of(alloc: Global, word: Word) -> Result<Option<Assign>, Memory>
-    ensures { IfOk result (λ o. IfSome o (λ a. assignment_of word ≡ Some a)) }
+    ensures { IfOk result (λ o. o ≡ assignment_of word) }
 {
     let mut rest = word;
     match take_first(&mut rest) {

@@ -1,5 +1,5 @@
 //! The tests of conditions.
-ghost use Rattle.std.specs.Prelude.{◌≡◌, IfSome, Some};
+ghost use Rattle.std.specs.Prelude.{◌≡◌};
 ghost use Rattle.tree_parts.specs.Parts.{binary_by, binary_test, plain_bytes, test_of, unary_by, unary_test};
 
 use crate::arithmetic::plain_bytes;
@@ -65,10 +65,10 @@ fn binary(left: Word, name: Word, right: Word) -> Option<Test>
     }
 }
 
-/// The test that the words of a term are; nothing where they are none.
-#[tactic(auto, using(crate::proofs::Terms::one_word, crate::proofs::Terms::two_words, crate::proofs::Terms::three_words))]
+/// The test that the words of a term are; nothing exactly where they are none.
+#[tactic(auto, using(crate::proofs::Terms::no_word, crate::proofs::Terms::one_word, crate::proofs::Terms::two_words, crate::proofs::Terms::three_words, crate::proofs::Terms::more_words))]
 pub fn test_of(words: Items<Word>) -> Option<Test>
-    ensures { IfSome result (λ x. test_of words ≡ Some x) }
+    ensures { result ≡ test_of words }
 {
     let mut front = words;
     let Some(last) = front.pop() else {

@@ -1,10 +1,10 @@
 //! Names and paths.
-ghost use Rattle.std.specs.Prelude.{◌≡◌, ◌≤◌, ◌<◌, ◌+◌, ◌++◌, ◌∷◌, [], drop, take, length, map, IfOk, IfSome, OnOk, MatchOption};
+ghost use Rattle.std.specs.Prelude.{◌≡◌, ◌≤◌, ◌<◌, ◌+◌, ◌++◌, ◌∷◌, [], true, false, drop, take, length, map, IfOk, IfSome, OnOk, MatchOption};
 ghost use Rattle.ksh_ast.specs.declared.tree.TreePart.TheVariants as part;
 ghost use Rattle.ksh_kinds.specs.Words.{path_front};
 ghost use Rattle.ksh_lexer.specs.Bytes.{in_name, starts_name};
 ghost use Rattle.tree_parts.specs.Literals.{from_place};
-ghost use Rattle.tree_parts.specs.Parts.{between_dots, names_of, path_of, path_word, with_part_text, with_parts_text};
+ghost use Rattle.tree_parts.specs.Parts.{all_names, between_dots, is_name, names_of, path_of, path_word, with_part_text, with_parts_text};
 
 use crate::literals::{add_literal, add_pieces, literal_word};
 use crate::queue::Queue;
@@ -25,14 +25,16 @@ pub fn from_place(sign: Sign, at: usize, bytes: &[u8]) -> &[u8]
     &bytes[front..]
 }
 
-/// The name that the bytes are; nothing where they are none.
+/// The name that the bytes are; nothing exactly where they are none.
+#[tactic(auto, using(crate::proofs::Naming::no_bytes))]
 pub fn name_of(alloc: Global, bytes: &[u8]) -> Result<Option<Name>, Memory>
-    ensures { IfOk result (λ o. IfSome o (λ n. n ≡ bytes.now)) }
+    ensures { IfOk result (λ o. MatchOption o (is_name bytes.now ≡ false) (λ n. (n ≡ bytes.now) × (is_name bytes.now ≡ true))) }
 {
     match Name::read(alloc, bytes) {
         Ok(name) => Ok(Some(name)),
         Err(NameFault::Memory) => Err(Memory),
-        Err(_) => Ok(None),
+        Err(NameFault::Empty) => Ok(None),
+        Err(NameFault::BadByte(_)) => Ok(None),
     }
 }
 
@@ -50,12 +52,13 @@ fn dot_place(bytes: &[u8]) -> Option<usize>
 }
 
 /// The names with those behind them that the bytes are.
+#[tactic(auto, using(crate::proofs::Naming::bad_first, crate::proofs::Naming::one_more_name, crate::proofs::Naming::last_name))]
 fn names_behind(
     alloc: Global,
     names: Items<Name>,
     bytes: &[u8],
 ) -> Result<Option<Items<Name>>, Memory>
-    ensures { IfOk result (λ o. IfSome o (λ ns. ns ≡ names ++ between_dots bytes.now)) }
+    ensures { IfOk result (λ o. MatchOption o (all_names (between_dots bytes.now) ≡ false) (λ ns. (ns ≡ names ++ between_dots bytes.now) × (all_names (between_dots bytes.now) ≡ true))) }
 {
     let mut found = names;
     let mut rest = bytes;
@@ -75,16 +78,19 @@ fn names_behind(
     }
 }
 
-/// The names of a path, of which `.sh` is one; nothing where a part of it is no name.
+/// The names of a path, of which `.sh` is one; nothing exactly where a part of it is no name.
 pub fn names_of(alloc: Global, bytes: &[u8]) -> Result<Option<Items<Name>>, Memory>
-    ensures { IfOk result (λ o. IfSome o (λ ns. ns ≡ names_of bytes.now)) }
+    ensures { IfOk result (λ o. MatchOption o (all_names (names_of bytes.now) ≡ false) (λ ns. (ns ≡ names_of bytes.now) × (all_names (names_of bytes.now) ≡ true))) }
 {
     let mut names = Items::new(alloc);
     match bytes {
         [b'.', b's', b'h', b'.', rest @ ..] => match name_of(alloc, &bytes[..3])? {
             Some(name) => {
                 names.push(name)?;
-                names_behind(alloc, names, rest)
+                match names_behind(alloc, names, rest)? {
+                    Some(all) => Ok(Some(all)),
+                    None => Ok(None),
+                }
             }
             None => Ok(None),
         },
@@ -104,9 +110,10 @@ fn members(alloc: Global, names: Queue<Name>) -> Result<Items<TreePart>, Memory>
     Ok(parts)
 }
 
-/// The path that the bytes are; nothing where a part of it is no name.
+/// The path that the bytes are; nothing exactly where a part of it is no name.
+#[tactic(auto, using(crate::proofs::Naming::some_names))]
 pub fn path_of(alloc: Global, bytes: &[u8]) -> Result<Option<TreePath>, Memory>
-    ensures { IfOk result (λ o. IfSome o (λ p. p ≡ path_of bytes.now)) }
+    ensures { IfOk result (λ o. MatchOption o (all_names (names_of bytes.now) ≡ false) (λ p. (p ≡ path_of bytes.now) × (all_names (names_of bytes.now) ≡ true))) }
 {
     let Some(names) = names_of(alloc, bytes)? else {
         return Ok(None);

@@ -1,6 +1,6 @@
 //! Parameters and what is made of them.
-ghost use Rattle.std.specs.Prelude.{◌≡◌, IfOk, IfSome};
-ghost use Rattle.tree_parts.specs.Parts.{formed, plain_form, replacing, simple_param};
+ghost use Rattle.std.specs.Prelude.{◌≡◌, IfOk, MatchOption, false};
+ghost use Rattle.tree_parts.specs.Parts.{formed, is_param, plain_form, replacing, simple_param};
 
 use crate::asked::Asked;
 use crate::names::{name_of, starts_name};
@@ -9,9 +9,9 @@ use ksh_base::{Items, Memory, Text};
 use ksh_lexer::Form;
 use std::alloc::Global;
 
-/// The parameter whose bytes stand behind a `$`; nothing where a name is none.
+/// The parameter whose bytes stand behind a `$`; nothing exactly where they begin like a name and are none.
 pub fn simple_param(alloc: Global, bytes: &[u8]) -> Result<Option<ParamOf>, Memory>
-    ensures { IfOk result (λ o. IfSome o (λ p. p ≡ simple_param bytes.now)) }
+    ensures { IfOk result (λ o. MatchOption o (is_param bytes.now ≡ false) (λ p. p ≡ simple_param bytes.now)) }
 {
     let begins = match bytes.split_first() {
         Some((first, _)) => starts_name(*first),

@@ -1,7 +1,7 @@
 //! Redirections.
-ghost use Rattle.std.specs.Prelude.{◌≡◌, IfOk, IfSome};
+ghost use Rattle.std.specs.Prelude.{◌≡◌, IfOk, MatchOption, false, nat_lt};
 ghost use Rattle.ksh_ast.specs.declared.redirect.RedirectTo.TheVariants as to;
-ghost use Rattle.tree_parts.specs.Parts.{redirect_form, redirect_to};
+ghost use Rattle.tree_parts.specs.Parts.{descriptor_name, is_descriptor, redirect_form, redirect_to};
 
 use crate::names::name_of;
 use ksh_ast::{Digit, RedirectForm, RedirectTo};
@@ -26,41 +26,47 @@ pub fn redirect_form(operator: Redirection) -> Option<RedirectForm>
     }
 }
 
-/// The descriptor of a digit's value; nothing where it has two digits.
-#[tactic(auto, using(crate::proofs::Pieces::digit_read))]
+/// The descriptor of a digit's value; nothing exactly where it has two digits.
+#[tactic(auto, using(crate::proofs::Pieces::digit_read, crate::proofs::Pieces::no_digit))]
 fn digit_to(number: u8) -> Option<RedirectTo>
-    ensures { IfSome result (λ t. t ≡ to.Digit number) }
+    ensures { MatchOption result (nat_lt number 10 ≡ false) (λ t. t ≡ to.Digit number) }
 {
-    if number > 9 {
-        return None;
+    if number < 10 {
+        return match Digit::read(b'0' + number) {
+            Some(digit) => Some(RedirectTo::Digit(digit)),
+            None => None,
+        };
     }
-    match Digit::read(b'0' + number) {
-        Some(digit) => Some(RedirectTo::Digit(digit)),
-        None => None,
+    None
+}
+
+/// The name of an operator's descriptor, which ends at that place of the script.
+fn descriptor_name(end: usize, from: usize, bytes: &[u8]) -> &[u8]
+    ensures { result.now ≡ descriptor_name end from bytes.now }
+{
+    let count = end.saturating_sub(from).saturating_sub(1);
+    match bytes.split_first() {
+        Some((_, behind)) => &behind[..count.min(behind.len())],
+        None => b"",
     }
 }
 
-/// The descriptor of an operator, whose token has these bytes from that place of the script on; nothing where they name none.
+/// The descriptor of an operator, whose token has these bytes from that place of the script on; nothing exactly where they
+/// name none.
 pub fn redirect_to(
     alloc: Global,
     descriptor: Descriptor,
     from: usize,
     bytes: &[u8],
 ) -> Result<Option<RedirectTo>, Memory>
-    ensures { IfOk result (λ o. IfSome o (λ t. t ≡ redirect_to descriptor from bytes.now)) }
+    ensures { IfOk result (λ o. MatchOption o (is_descriptor descriptor from bytes.now ≡ false) (λ t. t ≡ redirect_to descriptor from bytes.now)) }
 {
     match descriptor {
         Descriptor::Default => Ok(Some(RedirectTo::Usual)),
         Descriptor::Digit(number) => Ok(digit_to(number)),
-        Descriptor::Named(end) => {
-            let count = end.saturating_sub(from).saturating_sub(1);
-            if count >= bytes.len() {
-                return Ok(None);
-            }
-            match name_of(alloc, &bytes[1..][..count])? {
-                Some(name) => Ok(Some(RedirectTo::Var(name))),
-                None => Ok(None),
-            }
-        }
+        Descriptor::Named(end) => match name_of(alloc, descriptor_name(end, from, bytes))? {
+            Some(name) => Ok(Some(RedirectTo::Var(name))),
+            None => Ok(None),
+        },
     }
 }

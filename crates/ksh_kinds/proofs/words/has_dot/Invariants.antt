@@ -1,5 +1,5 @@
 use Rattle.std.proofs.Common.{◌≡◌, drop}
-use Rattle.ksh_kinds.specs.Words.{are_more, are_names, has_dot, path_front}
+use Rattle.ksh_kinds.specs.Words.{has_dot}
 use Rattle.ksh_kinds.proofs.words.has_dot.Given as goal
 
 abbrev pub invariant-loop-byte : goal.invariant-loop-byte

@@ -1,5 +1,5 @@
 use Rattle.std.proofs.Common.{◌≡◌, drop, take, ◌++◌}
-use Rattle.ksh_kinds.specs.Words.{are_more, are_names, has_dot, path_front}
+use Rattle.ksh_kinds.specs.Words.{path_front}
 use Rattle.ksh_kinds.proofs.words.path_len.Given as goal
 
 abbrev pub invariant-loop-i : goal.invariant-loop-i
