@@ -74,6 +74,10 @@ abbrev pub arguments_put : List Told → Put
 arguments_put [] rest = rest
 arguments_put (w ∷ ws) rest = say blank (w.put (arguments_put ws rest))
 
+abbrev pub arguments_between : List Told → Put
+arguments_between [] rest = rest
+arguments_between (w ∷ ws) rest = w.put (arguments_put ws rest)
+
 abbrev pub equals : Bool → List ℕ
 equals append = if append then codes "+=" else codes "="
 

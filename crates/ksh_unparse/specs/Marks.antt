@@ -57,12 +57,9 @@ abbrev pub between : List ℕ → List Put → Put
 between bytes [] rest = rest
 between bytes (x ∷ xs) rest = x (behind bytes xs rest)
 
--- `"` around what is quoted
+-- `"` where it opens or closes
 abbrev pub quote_mark : Bool → Put
 quote_mark quoted rest = if quoted then say (codes "\"") rest else rest
-
-abbrev pub wrapped : Bool → Put → Put
-wrapped quoted put rest = quote_mark quoted (put (quote_mark quoted rest))
 
 -- where it is there
 abbrev pub maybe : Option Put → Put

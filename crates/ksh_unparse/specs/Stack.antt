@@ -3,7 +3,7 @@ use Rattle.std.specs.Prelude.{List, [], ◌∷◌, Option, Some, None, reverse, 
 use Rattle.ksh_ast.specs.declared.tree.Arith.{Arith}
 use Rattle.ksh_unparse.specs.Layout.{Mark}
 use Rattle.ksh_unparse.specs.Marks.{Put, say, line, begin_body, end_body, quote, escape, each, lines, behind_lines, behind}
-use Rattle.ksh_unparse.specs.Words.{Spot, word_put, body_put}
+use Rattle.ksh_unparse.specs.Words.{Spot, word_put, body_put, pieces_put}
 use Rattle.ksh_unparse.specs.Arith.{expr_put, link_put, links_put, arith_parts_put}
 use Rattle.ksh_unparse.specs.Commands.{redirects_put, pairs_behind, words_behind, arguments_put, names_behind, terms_put, condition_behind, elifs_put, section, stages_behind}
 use Rattle.ksh_unparse.specs.Tree.{piece_spot, item_put, command_put, argument_put, assign_put, member_put, part_put, term_put, case_item_put, arith_put}
@@ -56,6 +56,7 @@ task_marks (task.BehindLines list) = behind_lines (list_puts list.now)
 task_marks (task.Command command) = command_put command.now
 task_marks (task.Word word) = word_put (word_spots word.now)
 task_marks (task.Body word) = body_put (word_spots word.now)
+task_marks (task.Pieces word arithmetic inside) = pieces_put arithmetic inside (word_spots word.now)
 task_marks (task.Words bytes words) = words_behind bytes.now (map word_spots words.now)
 task_marks (task.Arguments arguments) = arguments_put (map argument_put arguments.now)
 task_marks (task.Assign assign) = assign_put assign.now

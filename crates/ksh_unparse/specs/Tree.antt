@@ -17,10 +17,10 @@ use Rattle.ksh_ast.specs.declared.tree.Test.{Test, Test-F, fold-Test}
 use Rattle.ksh_ast.specs.declared.tree.TreePart.{TreePart, TreePart-F, fold-TreePart}
 use Rattle.ksh_ast.specs.declared.tree.TreePath.{TreePath, TreePath-F, fold-TreePath}
 use Rattle.ksh_unparse.specs.Layout.{laid}
-use Rattle.ksh_unparse.specs.Marks.{Put, nothing, say, line, escape, each, lines, alone, between, wrapped, maybe}
-use Rattle.ksh_unparse.specs.Words.{Spot, Form, word_put, bare_text, literal_put, subst_put, number_put, param_put, instead_bytes, assign_bytes, fault_bytes, other_bytes, cut_bytes, replace_bytes, slice_put}
+use Rattle.ksh_unparse.specs.Marks.{Put, nothing, say, line, escape, each, lines, alone, between, maybe}
+use Rattle.ksh_unparse.specs.Words.{Spot, Form, word_put, arith_text_put, bare_text, literal_put, subst_put, number_put, param_put, instead_bytes, assign_bytes, fault_bytes, other_bytes, cut_bytes, replace_bytes, with_put, slice_put}
 use Rattle.ksh_unparse.specs.Arith.{expr_put}
-use Rattle.ksh_unparse.specs.Commands.{Told, blank, redirects_put, pairs_put, words_between, arguments_put, equals, function_put, unary_bytes, binary_bytes, condition_put, section, arms_put, else_put, do_put, loop_bytes, in_put, item_end, stages_put, links_put, background_bytes, simple_put, is_reserved}
+use Rattle.ksh_unparse.specs.Commands.{Told, blank, redirects_put, pairs_put, words_between, arguments_between, equals, function_put, unary_bytes, binary_bytes, condition_put, section, arms_put, else_put, do_put, loop_bytes, in_put, item_end, stages_put, links_put, background_bytes, simple_put, is_reserved}
 
 -- ---- words
 
@@ -33,7 +33,7 @@ form_step (ParamForm-F.Other colon word) = record { front = nothing; tail = λ r
 form_step ParamForm-F.Length = record { front = say (codes "#"); tail = nothing }
 form_step (ParamForm-F.Cut tail longest pattern) = record { front = nothing; tail = λ rest. say (cut_bytes tail longest) (word_put pattern rest) }
 form_step (ParamForm-F.Slice from count) = record { front = nothing; tail = slice_put (word_put from) count }
-form_step (ParamForm-F.Replace which pattern with) = record { front = nothing; tail = λ rest. say (replace_bytes which) (word_put pattern (say (codes "/") (word_put with rest))) }
+form_step (ParamForm-F.Replace which pattern with) = record { front = nothing; tail = λ rest. say (replace_bytes which) (word_put pattern (with_put with rest)) }
 form_step ParamForm-F.Target = record { front = say (codes "!"); tail = nothing }
 
 abbrev pub of_step : ParamOf-F Told Put Put Put Put Form Put Spot Put Put Put Put Put Put Put Put → Put
@@ -55,13 +55,13 @@ path_step p rest = say p.name (each p.parts rest)
 
 abbrev pub arith_step : Arith-F Told Put Put Put Put Form Put Spot Put Put Put Put Put Put Put Put → Put
 arith_step (Arith-F.Parsed e) = expr_put e 14
-arith_step (Arith-F.Text word) = word_put word
+arith_step (Arith-F.Text word) = arith_text_put word
 
 abbrev pub piece_step : Piece-F Told Put Put Put Put Form Put Spot Put Put Put Put Put Put Put Put → Spot
-piece_step (Piece-F.Literal text quoted) = record { plain = literal_put text quoted; body = escape text; bare = bare_text quoted text }
-piece_step (Piece-F.Expand param quoted) = record { plain = wrapped quoted param; body = param; bare = None }
-piece_step (Piece-F.Subst list kind quoted) = record { plain = wrapped quoted (subst_put kind list); body = subst_put kind list; bare = None }
-piece_step (Piece-F.Number text quoted) = record { plain = wrapped quoted (number_put text); body = number_put text; bare = None }
+piece_step (Piece-F.Literal text quoted) = record { plain = literal_put text quoted; inside = false; body = escape text; bare = bare_text quoted text }
+piece_step (Piece-F.Expand param quoted) = record { plain = param; inside = quoted; body = param; bare = None }
+piece_step (Piece-F.Subst list kind quoted) = record { plain = subst_put kind list; inside = quoted; body = subst_put kind list; bare = None }
+piece_step (Piece-F.Number text quoted) = record { plain = number_put text; inside = quoted; body = number_put text; bare = None }
 
 -- ---- assignments
 
@@ -80,7 +80,7 @@ assign_step a rest = a.path (say (equals a.append) (a.value rest))
 
 abbrev pub member_step : Member-F Told Put Put Put Put Form Put Spot Put Put Put Put Put Put Put Put → Put
 member_step (Member-F.Member::Assign assign) rest = assign rest
-member_step (Member-F.Declare arguments) rest = say (codes "typeset") (arguments_put arguments rest)
+member_step (Member-F.Declare arguments) rest = arguments_between arguments rest
 member_step (Member-F.Member::Function definition) rest = function_put definition rest
 
 -- ---- conditions
@@ -112,7 +112,7 @@ command_step (Command-F.Subshell body redirects) rest = section (codes "(") body
 command_step (Command-F.If arms otherwise redirects) rest = arms_put arms (else_put otherwise (say (codes "fi") (redirects_put redirects rest)))
 command_step (Command-F.Loop until test body redirects) rest = say (loop_bytes until) (lines test (do_put body (redirects_put redirects rest)))
 command_step (Command-F.For name words body redirects) rest = say (codes "for ") (say name (in_put words (do_put body (redirects_put redirects rest))))
-command_step (Command-F.ForArith first test step body redirects) rest = say (codes "for ((") (maybe first (say (codes "; ") (maybe test (say (codes "; ") (maybe step (say (codes "))") (line (do_put body (redirects_put redirects rest)))))))))
+command_step (Command-F.ForArith first test step body redirects) rest = say (codes "for ((") (maybe first (say (codes ";") (maybe test (say (codes ";") (maybe step (say (codes "))") (line (do_put body (redirects_put redirects rest)))))))))
 command_step (Command-F.Case word items redirects) rest = say (codes "case ") (word_put word (say (codes " in") (line (each items (say (codes "esac") (redirects_put redirects rest))))))
 command_step (Command-F.Select name words body redirects) rest = say (codes "select ") (say name (in_put words (do_put body (redirects_put redirects rest))))
 command_step (Command-F.Command::Function definition) rest = function_put definition rest

@@ -1,14 +1,15 @@
 -- Words and their pieces.
-use Rattle.std.specs.Prelude.{ℕ, List, [], ◌∷◌, Bool, true, false, Option, Some, None, codes, if◌then◌else◌}
+use Rattle.std.specs.Prelude.{ℕ, ◌-◌, ◌==◌, not, take, length, slice_get, List, [], ◌∷◌, Bool, true, false, Option, Some, None, codes, if◌then◌else◌}
 use Rattle.ksh_ast.specs.declared.kinds.Replaced.{Replaced}
 use Rattle.ksh_ast.specs.declared.kinds.Replaced.TheVariants as replaced
 use Rattle.ksh_ast.specs.declared.kinds.SubstKind.{SubstKind}
 use Rattle.ksh_ast.specs.declared.kinds.SubstKind.TheVariants as subst
-use Rattle.ksh_unparse.specs.Marks.{Put, say, line, quote, lines}
+use Rattle.ksh_unparse.specs.Marks.{Put, say, line, quote, quote_mark, lines}
 
--- A piece in a word, and in the body of a here-document; and its bytes where it is a literal without quotes.
+-- A piece in a word, and in the body of a here-document; whether it stands inside `"`; and its bytes where it is a literal without quotes.
 pub record Spot : Type 0 where
   pub plain : Put
+  pub inside : Bool
   pub body : Put
   pub bare : Option (List ℕ)
 
@@ -16,10 +17,6 @@ pub record Spot : Type 0 where
 pub record Form : Type 0 where
   pub front : Put
   pub tail : Put
-
-abbrev pub word_put : List Spot → Put
-word_put [] rest = rest
-word_put (p ∷ ps) rest = p.plain (word_put ps rest)
 
 abbrev pub body_put : List Spot → Put
 body_put [] rest = rest
@@ -29,9 +26,46 @@ abbrev pub bare_text : Bool → List ℕ → Option (List ℕ)
 bare_text true text = None
 bare_text false text = Some text
 
+abbrev pub is_backslash : Option ℕ → Bool
+is_backslash None = false
+is_backslash (Some b) = b == 92
+
+abbrev pub ends_in_backslash : List ℕ → Bool
+ends_in_backslash bytes = is_backslash (slice_get bytes (length bytes - 1))
+
+-- Outside arithmetic a bare backslash ends a literal only where a script's text ends: it gets quotes, since it would quote what follows it.
+abbrev pub bare_put : Bool → List ℕ → Put
+bare_put false text rest = say text rest
+bare_put true text rest = say (take (length text - 1) text) (say (codes "'\\'") rest)
+
 abbrev pub literal_put : List ℕ → Bool → Put
 literal_put text true = quote text
-literal_put text false = say text
+literal_put text false = bare_put (ends_in_backslash text) text
+
+-- in arithmetic a bare literal is written as it is
+abbrev pub as_it_is : Option (List ℕ) → Put → Put
+as_it_is None put rest = put rest
+as_it_is (Some text) put rest = say text rest
+
+abbrev pub piece_put : Bool → Spot → Put
+piece_put arithmetic p rest = if arithmetic then as_it_is p.bare p.plain rest else p.plain rest
+
+-- where `"` opens or closes
+abbrev pub turns : Bool → Bool → Bool
+turns true inside = not inside
+turns false inside = inside
+
+-- Pieces, behind one that stands inside `"` or not: neighbours inside it share it, since each `"` that opens begins a literal.
+abbrev pub pieces_put : Bool → Bool → List Spot → Put
+pieces_put arithmetic behind_inside [] rest = quote_mark behind_inside rest
+pieces_put arithmetic behind_inside (p ∷ ps) rest = quote_mark (turns behind_inside p.inside) (piece_put arithmetic p (pieces_put arithmetic p.inside ps rest))
+
+abbrev pub word_put : List Spot → Put
+word_put = pieces_put false false
+
+-- the text of arithmetic that is expanded
+abbrev pub arith_text_put : List Spot → Put
+arith_text_put = pieces_put true false
 
 abbrev pub subst_put : SubstKind → List Put → Put
 subst_put subst.Current list rest = say (codes "${") (line (lines list (say (codes "}") rest)))
@@ -63,6 +97,11 @@ replace_bytes replaced.First = codes "/"
 replace_bytes replaced.All = codes "//"
 replace_bytes replaced.Front = codes "/#"
 replace_bytes replaced.Tail = codes "/%"
+
+-- what stands in place of a match; without it there is no second slash, which would make `/` of an empty pattern `//`
+abbrev pub with_put : List Spot → Put
+with_put [] rest = rest
+with_put (p ∷ ps) rest = say (codes "/") (word_put (p ∷ ps) rest)
 
 abbrev pub slice_put : Put → Option (List Spot) → Put
 slice_put from None rest = say (codes ":") (from rest)

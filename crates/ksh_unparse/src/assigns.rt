@@ -1,6 +1,6 @@
 //! Assignments, the words of a command, and redirections.
 ghost use Rattle.std.specs.Prelude.{◌≡◌, OnOk, codes, map};
-ghost use Rattle.ksh_unparse.specs.Commands.{arguments_put, blank, equals, form_put, function_put, is_branch_bytes, is_loop_bytes, is_other_bytes, is_reserved_bytes, names_behind, names_put, pair_put, pairs_behind, pairs_put, redirect_put, redirects_put, to_put, words_behind, words_between};
+ghost use Rattle.ksh_unparse.specs.Commands.{arguments_between, arguments_put, blank, equals, form_put, function_put, is_branch_bytes, is_loop_bytes, is_other_bytes, is_reserved_bytes, names_behind, names_put, pair_put, pairs_behind, pairs_put, redirect_put, redirects_put, to_put, words_behind, words_between};
 ghost use Rattle.ksh_unparse.specs.Marks.{alone, behind, behind_lines, between, lines, say};
 ghost use Rattle.ksh_unparse.specs.Stack.{function_puts, list_puts, pair_spots, redirect_spots, to_write, word_spots};
 ghost use Rattle.ksh_unparse.specs.Tree.{argument_put, assign_put, item_put, member_put, value_put};
@@ -95,6 +95,20 @@ pub fn put_arguments<'a>(arguments: &'a [Argument], left: &mut Left<'a>) -> Resu
     left.push(Task::Bytes(b" "))
 }
 
+/// The words of a declaration, `typeset` the first.
+fn put_arguments_between<'a>(
+    arguments: &'a [Argument],
+    left: &mut Left<'a>,
+) -> Result<(), Memory>
+    ensures { OnOk result (to_write left.new.tasks ≡ arguments_between (map argument_put arguments.now) (to_write left.old.tasks)) }
+{
+    let Some((argument, rest)) = arguments.split_first() else {
+        return Ok(());
+    };
+    left.push(Task::Arguments(rest))?;
+    put_argument(argument, left)
+}
+
 /// A word of a command.
 #[tactic(auto, unfolding(crate::specs::Tree::argument_put, crate::specs::Tree::assign_put, crate::specs::Tree::piece_spot))]
 pub fn put_argument<'a>(argument: &'a Argument, left: &mut Left<'a>) -> Result<(), Memory>
@@ -102,7 +116,7 @@ pub fn put_argument<'a>(argument: &'a Argument, left: &mut Left<'a>) -> Result<(
 {
     match argument {
         Argument::Word(word) => left.push(Task::Word(word.as_slice())),
-        Argument::Assign(assign) => put_assign(assign, left),
+        Argument::Assign(assign) => left.push(Task::Assign(assign)),
     }
 }
 
@@ -217,10 +231,7 @@ fn put_member<'a>(member: &'a Member, left: &mut Left<'a>) -> Result<(), Memory>
 {
     match member {
         Member::Assign(assign) => left.push(Task::Assign(assign)),
-        Member::Declare(arguments) => {
-            left.push(Task::Arguments(arguments.as_slice()))?;
-            left.push(Task::Bytes(b"typeset"))
-        }
+        Member::Declare(arguments) => put_arguments_between(arguments.as_slice(), left),
         Member::Function(definition) => put_function(definition.get(), left),
     }
 }

@@ -270,21 +270,21 @@ fn put_named<'a>(begin: &'a [u8], name: &'a Name, left: &mut Left<'a>) -> Result
     left.push(Task::Bytes(begin))
 }
 
-/// `for ((first; test; step))`
+/// `for ((first;test;step))`: a blank would belong to a text that is expanded.
 fn put_for_arith<'a>(
     first: &'a Option<Arith>,
     test: &'a Option<Arith>,
     step: &'a Option<Arith>,
     left: &mut Left<'a>,
 ) -> Result<(), Memory>
-    ensures { OnOk result (to_write left.new.tasks ≡ say (codes "for ((") (maybe_arith first.now (say (codes "; ") (maybe_arith test.now (say (codes "; ") (maybe_arith step.now (say (codes "))") (line (to_write left.old.tasks))))))))) }
+    ensures { OnOk result (to_write left.new.tasks ≡ say (codes "for ((") (maybe_arith first.now (say (codes ";") (maybe_arith test.now (say (codes ";") (maybe_arith step.now (say (codes "))") (line (to_write left.old.tasks))))))))) }
 {
     left.push(Task::Line)?;
     left.push(Task::Bytes(b"))"))?;
     put_maybe(step, left)?;
-    left.push(Task::Bytes(b"; "))?;
+    left.push(Task::Bytes(b";"))?;
     put_maybe(test, left)?;
-    left.push(Task::Bytes(b"; "))?;
+    left.push(Task::Bytes(b";"))?;
     put_maybe(first, left)?;
     left.push(Task::Bytes(b"for (("))
 }

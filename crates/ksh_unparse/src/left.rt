@@ -34,6 +34,8 @@ pub enum Task<'a> {
     Word(&'a [Piece]),
     /// The body of a here-document.
     Body(&'a [Piece]),
+    /// Pieces of a word, or of arithmetic where the first is set, behind one that stands inside `"` where the second is.
+    Pieces(&'a [Piece], bool, bool),
     /// Words, each behind these bytes.
     Words(&'a [u8], &'a [Word]),
     Arguments(&'a [Argument]),

@@ -1,9 +1,9 @@
 //! Words and their pieces.
-ghost use Rattle.std.specs.Prelude.{◌≡◌, OnOk, map};
+ghost use Rattle.std.specs.Prelude.{◌≡◌, ◌-◌, OnOk, length, map, take};
 ghost use Rattle.ksh_unparse.specs.Marks.{each, quote_mark, say};
 ghost use Rattle.ksh_unparse.specs.Stack.{list_puts, to_write, word_spots};
 ghost use Rattle.ksh_unparse.specs.Tree.{arith_put, form_of, of_put, parameter_put, part_put, path_put, piece_spot};
-ghost use Rattle.ksh_unparse.specs.Words.{assign_bytes, body_put, cut_bytes, fault_bytes, instead_bytes, literal_put, number_put, other_bytes, replace_bytes, subst_put, word_put};
+ghost use Rattle.ksh_unparse.specs.Words.{as_it_is, assign_bytes, bare_put, body_put, cut_bytes, ends_in_backslash, fault_bytes, instead_bytes, literal_put, number_put, other_bytes, pieces_put, replace_bytes, subst_put, turns, with_put, word_put};
 
 use crate::left::{Left, Task};
 use ksh_ast::{
@@ -11,15 +11,49 @@ use ksh_ast::{
 };
 use ksh_base::{Memory, Text};
 
-/// A word: its first piece, and what is left of it.
-pub fn put_word<'a>(word: &'a [Piece], left: &mut Left<'a>) -> Result<(), Memory>
-    ensures { OnOk result (to_write left.new.tasks ≡ word_put (word_spots word.now) (to_write left.old.tasks)) }
+/// Pieces behind one that stands inside `"` or not: the first, and what is left of them.
+pub fn put_pieces<'a>(
+    word: &'a [Piece],
+    arithmetic: bool,
+    inside: bool,
+    left: &mut Left<'a>,
+) -> Result<(), Memory>
+    ensures { OnOk result (to_write left.new.tasks ≡ pieces_put arithmetic inside (word_spots word.now) (to_write left.old.tasks)) }
 {
     let Some((piece, rest)) = word.split_first() else {
-        return Ok(());
+        return put_quote_mark(inside, left);
     };
-    left.push(Task::Word(rest))?;
-    put_piece(piece, left)
+    let next = is_inside(piece);
+    left.push(Task::Pieces(rest, arithmetic, next))?;
+    if arithmetic {
+        put_arith_piece(piece, left)?;
+    } else {
+        put_piece(piece, left)?;
+    }
+    put_quote_mark(turns(inside, next), left)
+}
+
+/// Whether the piece stands inside `"`.
+#[tactic(auto, unfolding(crate::specs::Tree::piece_spot))]
+fn is_inside(piece: &Piece) -> bool
+    ensures { result ≡ (piece_spot piece.now).inside }
+{
+    match piece {
+        Piece::Literal { text: _, quoted: _ } => false,
+        Piece::Expand { param: _, quoted } => *quoted,
+        Piece::Subst {
+            body: _,
+            kind: _,
+            quoted,
+        } => *quoted,
+        Piece::Number { text: _, quoted } => *quoted,
+    }
+}
+
+fn turns(inside: bool, next: bool) -> bool
+    ensures { result ≡ turns inside next }
+{
+    if inside { !next } else { next }
 }
 
 /// The same in the body of a here-document.
@@ -39,21 +73,13 @@ fn put_piece<'a>(piece: &'a Piece, left: &mut Left<'a>) -> Result<(), Memory>
 {
     match piece {
         Piece::Literal { text, quoted } => put_literal(text, *quoted, left),
-        Piece::Expand { param, quoted } => {
-            put_quote_mark(*quoted, left)?;
-            put_param(param, left)?;
-            put_quote_mark(*quoted, left)
-        }
-        Piece::Subst { body, kind, quoted } => {
-            put_quote_mark(*quoted, left)?;
-            put_subst(*kind, body, left)?;
-            put_quote_mark(*quoted, left)
-        }
-        Piece::Number { text, quoted } => {
-            put_quote_mark(*quoted, left)?;
-            put_number(text, left)?;
-            put_quote_mark(*quoted, left)
-        }
+        Piece::Expand { param, quoted: _ } => put_param(param, left),
+        Piece::Subst {
+            body,
+            kind,
+            quoted: _,
+        } => put_subst(*kind, body, left),
+        Piece::Number { text, quoted: _ } => put_number(text, left),
     }
 }
 
@@ -79,8 +105,36 @@ fn put_literal<'a>(text: &'a Text, quoted: bool, left: &mut Left<'a>) -> Result<
     if quoted {
         left.push(Task::Quoted(text.bytes()))
     } else {
-        left.push(Task::Bytes(text.bytes()))
+        put_bare(text.bytes(), left)
     }
+}
+
+/// A literal without quotes. A backslash that ends it is quoted.
+fn put_bare<'a>(bytes: &'a [u8], left: &mut Left<'a>) -> Result<(), Memory>
+    ensures { OnOk result (to_write left.new.tasks ≡ bare_put (ends_in_backslash bytes.now) bytes.now (to_write left.old.tasks)) }
+{
+    if !ends_in_backslash(bytes) {
+        return left.push(Task::Bytes(bytes));
+    }
+    left.push(Task::Bytes(b"'\\'"))?;
+    left.push(Task::Bytes(without_last(bytes)))
+}
+
+fn ends_in_backslash(bytes: &[u8]) -> bool
+    ensures { result ≡ ends_in_backslash bytes.now }
+{
+    match bytes.last() {
+        Some(byte) => *byte == b'\\',
+        None => false,
+    }
+}
+
+/// The bytes before the last.
+fn without_last<'a>(bytes: &'a [u8]) -> &'a [u8]
+    ensures { result.now ≡ take (length bytes.now - 1) bytes.now }
+{
+    let count = bytes.len().saturating_sub(1);
+    &bytes[..count]
 }
 
 fn put_quote_mark<'a>(quoted: bool, left: &mut Left<'a>) -> Result<(), Memory>
@@ -122,7 +176,21 @@ pub fn put_arith<'a>(text: &'a Arith, left: &mut Left<'a>) -> Result<(), Memory>
 {
     match text {
         Arith::Parsed(expr) => left.push(Task::Expr(expr, 14)),
-        Arith::Text(word) => left.push(Task::Word(word.as_slice())),
+        Arith::Text(word) => left.push(Task::Pieces(word.as_slice(), true, false)),
+    }
+}
+
+/// A literal without quotes as it is; any other piece as in a word.
+#[tactic(auto, unfolding(crate::specs::Tree::piece_spot, crate::specs::Tree::parameter_put, crate::specs::Tree::arith_put, crate::specs::Tree::item_put))]
+fn put_arith_piece<'a>(piece: &'a Piece, left: &mut Left<'a>) -> Result<(), Memory>
+    ensures { OnOk result (to_write left.new.tasks ≡ as_it_is (piece_spot piece.now).bare (piece_spot piece.now).plain (to_write left.old.tasks)) }
+{
+    match piece {
+        Piece::Literal {
+            text,
+            quoted: false,
+        } => left.push(Task::Bytes(text.bytes())),
+        _ => put_piece(piece, left),
     }
 }
 
@@ -234,9 +302,19 @@ fn put_tail<'a>(form: &'a ParamForm, left: &mut Left<'a>) -> Result<(), Memory>
             pattern,
             with,
         } => {
-            put_behind(b"/", with, left)?;
+            put_with(with, left)?;
             put_behind(replace_bytes(*which), pattern, left)
         }
+    }
+}
+
+/// What stands in place of a match, where there is any.
+fn put_with<'a>(word: &'a Word, left: &mut Left<'a>) -> Result<(), Memory>
+    ensures { OnOk result (to_write left.new.tasks ≡ with_put (word_spots word.now) (to_write left.old.tasks)) }
+{
+    match word.as_slice().split_first() {
+        Some(_) => put_behind(b"/", word, left),
+        None => Ok(()),
     }
 }
 

@@ -14,7 +14,7 @@ use crate::commands::{put_command, put_links, put_stages};
 use crate::conditions::{put_alternatives, put_term, put_terms};
 use crate::left::{Left, Task};
 use crate::paper::Paper;
-use crate::words::{put_body, put_parts, put_word};
+use crate::words::{put_body, put_parts, put_pieces};
 use ksh_ast::Script;
 use ksh_base::{Memory, Text};
 use std::alloc::Global;
@@ -67,8 +67,9 @@ fn do_task<'a>(task: Task<'a>, left: &mut Left<'a>, paper: &mut Paper) -> Result
         Task::List(list) => put_list(list, left),
         Task::BehindLines(list) => put_behind_lines(list, left),
         Task::Command(command) => put_command(command, left),
-        Task::Word(word) => put_word(word, left),
+        Task::Word(word) => put_pieces(word, false, false, left),
         Task::Body(word) => put_body(word, left),
+        Task::Pieces(word, arithmetic, inside) => put_pieces(word, arithmetic, inside, left),
         Task::Words(bytes, words) => put_words(bytes, words, left),
         Task::Arguments(arguments) => put_arguments(arguments, left),
         Task::Assign(assign) => put_assign(assign, left),

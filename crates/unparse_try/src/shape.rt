@@ -1,0 +1,1 @@
+../../round_trip_tests/src/shape.rt
