@@ -96,10 +96,7 @@ pub fn put_arguments<'a>(arguments: &'a [Argument], left: &mut Left<'a>) -> Resu
 }
 
 /// The words of a declaration, `typeset` the first.
-fn put_arguments_between<'a>(
-    arguments: &'a [Argument],
-    left: &mut Left<'a>,
-) -> Result<(), Memory>
+fn put_arguments_between<'a>(arguments: &'a [Argument], left: &mut Left<'a>) -> Result<(), Memory>
     ensures { OnOk result (to_write left.new.tasks ≡ arguments_between (map argument_put arguments.now) (to_write left.old.tasks)) }
 {
     let Some((argument, rest)) = arguments.split_first() else {

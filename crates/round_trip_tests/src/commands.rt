@@ -69,8 +69,20 @@ impl Maker {
         let text = self.random.text(
             self.alloc,
             &[
-                b"if", b"then", b"fi", b"esac", b"while", b"do", b"done", b"{", b"}", b"[[", b"!",
-                b"time", b"function", b"namespace",
+                b"if",
+                b"then",
+                b"fi",
+                b"esac",
+                b"while",
+                b"do",
+                b"done",
+                b"{",
+                b"}",
+                b"[[",
+                b"!",
+                b"time",
+                b"function",
+                b"namespace",
             ],
         )?;
         let word = one(

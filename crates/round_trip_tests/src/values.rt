@@ -134,7 +134,10 @@ impl Maker {
                 let piece = self.body_piece()?;
                 word.push(piece)?;
             }
-            if !matches!(word.as_slice().last(), Some(Piece::Literal { text: _, quoted: _ })) {
+            if !matches!(
+                word.as_slice().last(),
+                Some(Piece::Literal { text: _, quoted: _ })
+            ) {
                 let text = self.random.text(
                     self.alloc,
                     &[b"\n", b"E0\n", b"\\$`\"'\nE1\nE0 \n", b" a\t\n\n"],

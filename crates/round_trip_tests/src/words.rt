@@ -11,11 +11,13 @@ fn is_quoted(piece: Option<&Piece>) -> bool {
     match piece {
         Some(Piece::Literal { text: _, quoted }) => *quoted,
         Some(Piece::Expand { param: _, quoted }) => *quoted,
-        Some(Piece::Subst {
-            body: _,
-            kind: _,
-            quoted,
-        }) => *quoted,
+        Some(
+            Piece::Subst {
+                body: _,
+                kind: _,
+                quoted,
+            },
+        ) => *quoted,
         Some(Piece::Number { text: _, quoted }) => *quoted,
         None => false,
     }
@@ -34,7 +36,17 @@ impl Maker {
         self.random.text(
             self.alloc,
             &[
-                b"a", b"bc", b"1", b"d.e", b"?", b"[ab]", b"@(a|b c)", b"*z", b"~f", b"a,b", b"^",
+                b"a",
+                b"bc",
+                b"1",
+                b"d.e",
+                b"?",
+                b"[ab]",
+                b"@(a|b c)",
+                b"*z",
+                b"~f",
+                b"a,b",
+                b"^",
                 b"\xc3\xa9",
             ],
         )
@@ -264,10 +276,12 @@ impl Maker {
             });
         }
         if self.random.below(5) == 0 {
-            let of = ParamOf::Special(self.random.text(
-                self.alloc,
-                &[b"#", b"?", b"$", b"!", b"-", b"0", b"10", b"@", b"*"],
-            )?);
+            let of = ParamOf::Special(
+                self.random.text(
+                    self.alloc,
+                    &[b"#", b"?", b"$", b"!", b"-", b"0", b"10", b"@", b"*"],
+                )?,
+            );
             return Ok(Param {
                 of,
                 form: ParamForm::Plain,

@@ -33,7 +33,7 @@ by_fit_more (Over rest) g new us more x y over another ih h =
 by_fit_more Another g new us more x y over another ih h = ap (λ z. by_fit z new y) (another refl) ∙ ih h
 by_fit_more Few g new us more x y over another ih h = cc
 
-by_rows_more : (rows : List Row) (ts us more : List Tag) → by_rows rows ts ≡ Some us → by_rows rows (ts ++ more) ≡ Some (us ++ more)
+pub by_rows_more : (rows : List Row) (ts us more : List Tag) → by_rows rows ts ≡ Some us → by_rows rows (ts ++ more) ≡ Some (us ++ more)
 by_rows_more [] ts us more h = cc
 by_rows_more (row ∷ rows) ts us more h =
     by_fit_more (fit row.0 ts) (fit row.0 (ts ++ more)) row.1 us more (by_rows rows ts) (by_rows rows (ts ++ more))
@@ -47,7 +47,7 @@ by_mark_more : (rows : Option (List Row)) (ts us more : List Tag) → by_mark ro
 by_mark_more (Some rows) ts us more h = by_rows_more rows ts us more h
 by_mark_more None ts us more h = kept_more ts us more h
 
-moves_more : (e : Event) (ts us more : List Tag) → moves e ts ≡ Some us → moves e (ts ++ more) ≡ Some (us ++ more)
+pub moves_more : (e : Event) (ts us more : List Tag) → moves e ts ≡ Some us → moves e (ts ++ more) ≡ Some (us ++ more)
 moves_more (Took t) ts us more h = by_rows_more (token_rows t.0 t.1) ts us more h
 moves_more (Marked m) ts us more h = by_mark_more (mark_rows m) ts us more h
 
@@ -57,7 +57,7 @@ then_more : (f : List Tag → Option (List Tag)) → ((ts us more : List Tag) �
 then_more f more_f None y us more first h = cc
 then_more f more_f (Some vs) y us more first h = ap (option_and_then f) (first vs refl) ∙ more_f vs us more h
 
-body_more : (ts us more : List Tag) → option_and_then (by_rows body_ends) (by_rows body_begins ts) ≡ Some us → option_and_then (by_rows body_ends) (by_rows body_begins (ts ++ more)) ≡ Some (us ++ more)
+pub body_more : (ts us more : List Tag) → option_and_then (by_rows body_ends) (by_rows body_begins ts) ≡ Some us → option_and_then (by_rows body_ends) (by_rows body_begins (ts ++ more)) ≡ Some (us ++ more)
 body_more ts us more h =
     then_more (by_rows body_ends) (by_rows_more body_ends) (by_rows body_begins ts) (by_rows body_begins (ts ++ more)) us more (λ vs e. by_rows_more body_begins ts vs more e) h
 
@@ -65,7 +65,7 @@ heard_by : (b : Bool) (x y : Option (List Tag)) (ts us more : List Tag) → (x �
 heard_by true x y ts us more ih h = ih h
 heard_by false x y ts us more ih h = let e : ts ≡ us = cc in ap (λ xs. Some (xs ++ more)) e
 
-heard_more : (ts us more : List Tag) → heard ts ≡ Some us → heard (ts ++ more) ≡ Some (us ++ more)
+pub heard_more : (ts us more : List Tag) → heard ts ≡ Some us → heard (ts ++ more) ≡ Some (us ++ more)
 heard_more [] us more h = cc
 heard_more (t ∷ ts) us more h =
     heard_by (same_tag t tag.HereWord) (option_and_then (by_rows body_ends) (by_rows body_begins (t ∷ ts))) (option_and_then (by_rows body_ends) (by_rows body_begins ((t ∷ ts) ++ more))) (t ∷ ts) us more (body_more (t ∷ ts) us more) h

@@ -1,5 +1,5 @@
 -- Where a builder has its steps for a script and its bodies, it has them for each text by itself.
-use Rattle.std.specs.Prelude.{◌≡◌, Bool, true, false, List, [], ◌∷◌, ◌++◌, Option, Some, None, option_and_then, option_map, All, if◌then◌else◌}
+use Rattle.std.specs.Prelude.{◌≡◌, Bool, true, false, List, [], ◌∷◌, ◌++◌, Some, None, option_and_then, All, if◌then◌else◌}
 use Rattle.std.proofs.Common.{refl, sym, ◌∙◌, ap, subst}
 use Rattle.std.proofs.lemmas.List.Elements.{All-nil, All-push}
 use Rattle.ksh_syntax.specs.Sentences.{Event}
@@ -8,26 +8,8 @@ use Rattle.tree_moves.specs.Tags as tag
 use Rattle.tree_moves.specs.Moves.{step}
 use Rattle.tree_moves.specs.Turns.{State, Role, Own, Opens, Next, Last, Ends, behind_body, is_text, role_in, turn, turn_by, turns}
 use Rattle.tree_moves.specs.Texts.{Texts, TextsMove, cut, cut_by, cut_open, moved}
-use Rattle.tree_moves.proofs.Numbers.{tag_same}
 use Rattle.tree_moves.proofs.Theorem.{never_strays}
-
-record Mapped {X Y : Type 0} (f : X → Y) (o : Option X) (y : Y) : Type 0 where
-  x : X
-  some : o ≡ Some x
-  same : f x ≡ y
-
-mapped : {X Y : Type 0} (f : X → Y) (o : Option X) (y : Y) → option_map f o ≡ Some y → Mapped f o y
-mapped f None y h = cc
-mapped f (Some x) y h = record { x = x; some = refl; same = cc }
-
-record Followed {X Y : Type 0} (f : X → Option Y) (o : Option X) (y : Y) : Type 0 where
-  x : X
-  some : o ≡ Some x
-  goes : f x ≡ Some y
-
-followed : {X Y : Type 0} (f : X → Option Y) (o : Option X) (y : Y) → option_and_then f o ≡ Some y → Followed f o y
-followed f None y h = cc
-followed f (Some x) y h = record { x = x; some = refl; goes = h }
+use Rattle.tree_moves.proofs.Words.{mapped, text_so, then_goes}
 
 -- one event more
 moved_one : (es : List Event) (e : Event) (ts us vs : List Tag) → moved es ts ≡ Some us → step e us ≡ Some vs → moved (es ++ e ∷ []) ts ≡ Some vs
@@ -35,7 +17,7 @@ moved_one [] e ts us vs h k =
     let same : ts ≡ us = cc in
     ap (λ xs. option_and_then (moved []) (step e xs)) same ∙ ap (option_and_then (moved [])) k
 moved_one (x ∷ es) e ts us vs h k =
-    let f = followed (moved es) (step x ts) us h in
+    let f = then_goes (moved es) (step x ts) us h in
     ap (option_and_then (moved (es ++ e ∷ []))) f.some ∙ moved_one es e f.x us vs f.goes k
 
 -- a body within another text begins without pieces, and a script without commands
@@ -56,11 +38,6 @@ Moves body = moved body (tag.Text ∷ []) ≡ Some (tag.Text ∷ [])
 -- bodies that have ended, and texts that are open
 abbrev Holds : Texts → State → Type 0
 Holds t s = All Moves t.0 × Stand t.1 s
-
-text_so : (ts : List Tag) → is_text ts ≡ true → ts ≡ tag.Text ∷ []
-text_so [] h = cc
-text_so (t ∷ []) h = ap (λ x. x ∷ []) (tag_same t tag.Text h)
-text_so (t ∷ u ∷ ts) h = cc
 
 record Ended (ts : List Tag) (outer now s : State) : Type 0 where
   us : List Tag
@@ -106,7 +83,7 @@ turn_holds e done (now ∷ texts) (ts ∷ outer) s' all b h = role_holds (role_i
 turns_hold : (es : List Event) (t : Texts) (s s' : State) → Holds t s → turns es s ≡ Some s' → Holds (cut es t) s'
 turns_hold [] t s s' b h = let same : s ≡ s' = cc in subst (Holds t) same b
 turns_hold (e ∷ es) t s s' b h =
-    let k = followed (turns es) (turn e s) s' h in
+    let k = then_goes (turns es) (turn e s) s' h in
     turns_hold es (cut_open e t.0 t.1) k.x s' (turn_holds e t.0 t.1 s k.x b.0 b.1 k.some) k.goes
 
 record Whole (texts : List (List Event)) (ts : List Tag) : Type 0 where

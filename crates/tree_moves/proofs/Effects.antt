@@ -8,7 +8,7 @@ use Rattle.ksh_syntax.specs.declared.part.Ending.{Ending}
 use Rattle.ksh_syntax.specs.declared.part.Ending.TheVariants as ending
 use Rattle.tree_moves.specs.Tags.{Tag}
 use Rattle.tree_moves.specs.Tags as tag
-use Rattle.tree_moves.specs.Moves.{broken, settled, values, wholes}
+use Rattle.tree_moves.specs.Moves.{broken, settled, terms, values, wholes}
 
 abbrev pub Effect : Type 0
 Effect = List Tag × List (List Tag)
@@ -66,7 +66,7 @@ abbrev pub with_words : Tag → List (List Tag)
 with_words v = (v ∷ []) ∷ map (λ w. w ∷ v ∷ []) wholes
 
 abbrev pub any_entries : List (List Tag)
-any_entries = with_words tag.Value ++ (with_words tag.ValueWord ++ (with_words tag.ValueNamed ++ with_words tag.ValueBroken))
+any_entries = with_words tag.Value ++ (with_words tag.ValueWord ++ (with_words tag.ValueNamed ++ (with_words tag.ValueTypeset ++ with_words tag.ValueBroken)))
 
 -- what is on top, up to the end of the value
 abbrev pub closing : List (List Tag) → List Effect
@@ -82,13 +82,13 @@ entries_break = map (λ v. turns_to (v ∷ []) (broken v ∷ [])) values
 
 -- behind `function` and a name
 abbrev pub function_named : List (List Tag)
-function_named = (tag.WholeName ∷ tag.ValueWord ∷ []) ∷ (tag.WholeName ∷ tag.ValueNamed ∷ []) ∷ (tag.ValueNamed ∷ []) ∷ (tag.ValueBroken ∷ []) ∷ []
+function_named = (tag.WholeName ∷ tag.ValueWord ∷ []) ∷ (tag.WholeName ∷ tag.ValueNamed ∷ []) ∷ (tag.ValueNamed ∷ []) ∷ (tag.ValueTypeset ∷ []) ∷ (tag.ValueBroken ∷ []) ∷ []
 
 abbrev pub name_waits : List (List Tag)
 name_waits = map (λ v. tag.WholeName ∷ v ∷ []) values
 
 abbrev pub function_ends : List (List Tag)
-function_ends = (tag.Compound ∷ tag.ValueNamed ∷ []) ∷ (tag.Compound ∷ tag.ValueBroken ∷ []) ∷ map (λ v. tag.Compound ∷ tag.FunctionName ∷ v ∷ []) values
+function_ends = (tag.Compound ∷ tag.ValueNamed ∷ []) ∷ (tag.Compound ∷ tag.ValueTypeset ∷ []) ∷ (tag.Compound ∷ tag.ValueBroken ∷ []) ∷ map (λ v. tag.Compound ∷ tag.FunctionName ∷ v ∷ []) values
 
 -- ---- newlines
 
@@ -112,7 +112,7 @@ effects (part.AfterCompound e) = behind_command e tag.Finished
 effects part.Parameter = one (tag.BracesValue ∷ tag.Text ∷ []) (tag.Text ∷ [])
 effects part.LengthOf = one (tag.BracesLength ∷ tag.Text ∷ []) (tag.Text ∷ [])
 effects part.LengthPath = one (tag.AskedPath ∷ tag.Text ∷ []) (tag.Text ∷ [])
-effects part.TargetPath = turns_to (tag.AskedName ∷ tag.Text ∷ []) (tag.Text ∷ []) ∷ one (tag.AskedPath ∷ tag.Text ∷ []) (tag.Text ∷ [])
+effects part.TargetPath = one (tag.TargetPath ∷ tag.Text ∷ []) (tag.Text ∷ [])
 effects part.PathForm = one (tag.ParameterPath ∷ tag.Text ∷ []) (tag.Text ∷ [])
 effects part.SpecialForm = turns_to (tag.ParameterOther ∷ tag.Text ∷ []) (tag.Text ∷ []) ∷ one (tag.ParameterPath ∷ tag.Text ∷ []) (tag.Text ∷ [])
 effects part.SliceEnd = one (tag.Text ∷ tag.FormedTwice ∷ tag.Text ∷ []) (tag.Text ∷ [])
@@ -161,11 +161,11 @@ effects part.Alternatives = stays tag.Terms ∷ []
 effects part.Conjunction = stays tag.Terms ∷ []
 effects part.Conjuncts = stays tag.Terms ∷ []
 effects part.Negation = stays tag.Terms ∷ []
-effects part.Term = (tag.Terms ∷ [], (tag.Operands ∷ tag.Terms ∷ []) ∷ (tag.Tested ∷ tag.Terms ∷ []) ∷ []) ∷ []
-effects part.AfterOperand = stays tag.Operands ∷ []
-effects part.Operand = stays tag.Operands ∷ []
-effects part.AfterUnary = stays tag.Operands ∷ []
-effects part.AfterBinary = stays tag.Operands ∷ []
+effects part.Term = (tag.Terms ∷ [], map (λ t. t ∷ tag.Terms ∷ []) terms) ∷ []
+effects part.AfterOperand = (tag.OperandsOne ∷ [], (tag.OperandsOne ∷ []) ∷ (tag.Operands ∷ []) ∷ []) ∷ []
+effects part.Operand = one (tag.OperandsBinary ∷ []) (tag.Operands ∷ [])
+effects part.AfterUnary = (tag.OperandsUnary ∷ [], (tag.OperandsUnary ∷ []) ∷ (tag.OperandsBoth ∷ []) ∷ (tag.Operands ∷ []) ∷ []) ∷ []
+effects part.AfterBinary = (tag.OperandsBoth ∷ [], (tag.OperandsBoth ∷ []) ∷ (tag.Operands ∷ []) ∷ []) ∷ []
 effects part.Value = turns_to (tag.Assigning ∷ tag.Simple ∷ []) (tag.Simple ∷ []) ∷ one (tag.Assigning ∷ tag.Value ∷ []) (tag.Value ∷ [])
 effects part.ValueLine = entries_break
 effects part.ItemElement = closing ((tag.Target ∷ tag.Value ∷ []) ∷ [])

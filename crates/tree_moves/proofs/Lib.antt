@@ -1,4 +1,5 @@
 pub mod Below
+pub mod Bounds
 pub mod Checks
 pub mod Cuts
 pub mod Effects
@@ -8,3 +9,4 @@ pub mod Numbers
 pub mod Rows
 pub mod Sound
 pub mod Theorem
+pub mod Words

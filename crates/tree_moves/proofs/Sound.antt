@@ -1,5 +1,5 @@
 -- What is computed of a rule holds of all that the rule reads.
-use Rattle.std.specs.Prelude.{◌≡◌, ℕ, zero, suc, Bool, true, false, List, [], ◌∷◌, ◌++◌, map, filter, slice_get, Option, Some, None, option_map, if◌then◌else◌}
+use Rattle.std.specs.Prelude.{◌≡◌, ℕ, zero, suc, Bool, true, false, ◌&&◌, List, [], ◌∷◌, ◌++◌, map, filter, slice_get, Option, Some, None, option_map, if◌then◌else◌}
 use Rattle.std.proofs.Common.{refl, sym, ◌∙◌, ap, subst, append_assoc}
 use Rattle.std.proofs.lemmas.Bool.{eqb-true}
 use Rattle.std.specs.List.{list_all, list_any}
@@ -23,12 +23,14 @@ use Rattle.ksh_syntax.specs.Sentences.{Took, Marked, Token, anywhere}
 use Rattle.ksh_syntax.proofs.Everything.{kinds, kind_at, modes, mode_at, parts, all_parts}
 use Rattle.tree_moves.specs.Tags.{Tag, same_tag}
 use Rattle.tree_moves.specs.Tags as tag
-use Rattle.tree_moves.specs.Moves.{Fit, Over, Another, Few, fit, step}
-use Rattle.tree_moves.specs.Turns.{State, Role, Own, Opens, Next, Last, Ends, is_lexed, role_of, turn_by}
-use Rattle.tree_moves.proofs.Below.{step_more}
+use Rattle.tree_moves.specs.Moves.{Fit, Over, Another, Few, fit}
+use Rattle.tree_moves.specs.Turns.{Role, Own, Opens, Next, Last, Ends, is_lexed, role_of}
+use Rattle.tree_moves.specs.HereWords.{Text, Waits, Still, Opening, Closing, end_step, fresh, is_still, text_step, text_turn_by}
+use Rattle.tree_moves.proofs.Bounds.{Bounds, Any, Plain, Closes, Stands, bounds, front}
 use Rattle.tree_moves.proofs.Effects.{Effect, effects}
-use Rattle.tree_moves.proofs.Leads.{Among, Goes, over, bodies, body_end, Leads, in_state}
-use Rattle.tree_moves.proofs.Follows.{mode_in, kinds_in, same_tags, then_all, by_role, in_effect, by_effects, is_bodies, follows, follows_bodies, is_followed}
+use Rattle.tree_moves.proofs.Leads.{Among, Goes, over, bodies, body_end, behind_part, Leads, in_state, over_rest, State}
+use Rattle.tree_moves.proofs.Follows.{mode_in, kinds_in, same_bools, same_tags, then_all, by_role, in_effect, by_effects, by_openings, by_part, ends_so, is_bodies, is_known, is_plain, open_behind, follows, follows_bodies, is_followed}
+use Rattle.tree_moves.proofs.Words.{Outside, end_more, marked_more, took_more}
 use Rattle.tree_moves.proofs.Checks.{all_followed}
 use Rattle.tree_moves.proofs.Numbers.{tag_same}
 use Rattle.tree_moves.proofs.Rows.{fit_front}
@@ -102,32 +104,44 @@ kind_taken (Any m ws) g k a h = all_filtered (are_in ws) g kinds (kind_number k)
 
 -- ---- tokens and marks
 
-record Then (o : Option (List Tag)) (next : List Tag → Bool) : Type 0 where
-  ts : List Tag
-  some : o ≡ Some ts
-  goes : next ts ≡ true
+record Then (o : Option Text) (next : Text → Bool) : Type 0 where
+  x : Text
+  some : o ≡ Some x
+  goes : next x ≡ true
 
-then_some : (o : Option (List Tag)) (next : List Tag → Bool) → then_all next o ≡ true → Then o next
+then_some : (o : Option Text) (next : Text → Bool) → then_all next o ≡ true → Then o next
 then_some None next h = cc
-then_some (Some ts) next h = record { ts = ts; some = refl; goes = h }
+then_some (Some x) next h = record { x = x; some = refl; goes = h }
 
 where_so : (b x : Bool) → b ≡ true → (if b then x else true) ≡ true → x ≡ true
 where_so true x e h = h
 where_so false x e h = cc
 
-role_leads : (r : Role) (t : Token) (next behind : List Tag → Bool) (left : Left) (Q : State → Type 0) (ts rest : List Tag) (outer : State)
-    → ((us : List Tag) → next us ≡ true → Leads left (in_state rest outer us) Q)
-    → ((us : List Tag) → behind us ≡ true → Leads left ((tag.Text ∷ []) ∷ in_state rest outer us) Q)
-    → is_lexed t ≡ true → by_role r next behind t ts ≡ true → (now : State) × (turn_by r (Took t) (ts ++ rest) outer ≡ Some now) × Leads left now Q
-role_leads Own t next behind left Q ts rest outer next_leads behind_leads l h =
-    let k = then_some (step (Took t) ts) next (where_so (is_lexed t) (then_all next (step (Took t) ts)) l h) in
-    (in_state rest outer k.ts, ap (option_map (λ us. us ∷ outer)) (step_more (Took t) ts k.ts rest k.some), next_leads k.ts k.goes)
-role_leads Opens t next behind left Q ts rest outer next_leads behind_leads l h =
-    let k = then_some (step (Took t) ts) behind h in
-    ((tag.Text ∷ []) ∷ in_state rest outer k.ts, ap (option_map (λ us. (tag.Text ∷ []) ∷ us ∷ outer)) (step_more (Took t) ts k.ts rest k.some), behind_leads k.ts k.goes)
-role_leads Next t next behind left Q ts rest outer next_leads behind_leads l h = cc
-role_leads Last t next behind left Q ts rest outer next_leads behind_leads l h = cc
-role_leads Ends t next behind left Q ts rest outer next_leads behind_leads l h = (in_state rest outer ts, refl, next_leads ts h)
+role_leads : (plain : Bool) (r : Role) (t : Token) (next behind : Text → Bool) (left : Left) (Q : State → Type 0) (x : Text) (rest : List Tag) (outside : List Bool) (outer : State) → Outside plain outside
+    → ((y : Text) → next y ≡ true → Leads left (in_state rest outside outer y) Q)
+    → ((y : Text) → behind y ≡ true → Leads left (fresh ∷ in_state rest outside outer y) Q)
+    → is_lexed t ≡ true → by_role plain r next behind t x ≡ true → (now : State) × (text_turn_by r (Took t) (over_rest rest outside x) outer ≡ Some now) × Leads left now Q
+role_leads plain Own t next behind left Q x rest outside outer out next_leads behind_leads l h =
+    let so = where_so (is_lexed t) (is_known plain t x && then_all next (text_step (Took t) x)) l h in
+    let k = then_some (text_step (Took t) x) next (and_right (is_known plain t x) (then_all next (text_step (Took t) x)) so) in (
+      in_state rest outside outer k.x,
+      ap (option_map (λ y. y ∷ outer)) (took_more plain t x k.x rest outside out (and_left (is_known plain t x) (then_all next (text_step (Took t) x)) so) k.some),
+      next_leads k.x k.goes,
+    )
+role_leads plain Opens t next behind left Q x rest outside outer out next_leads behind_leads l h =
+    let k = then_some (text_step (Took t) x) behind (and_right (is_known plain t x) (then_all behind (text_step (Took t) x)) h) in (
+      fresh ∷ in_state rest outside outer k.x,
+      ap (option_map (λ y. fresh ∷ y ∷ outer)) (took_more plain t x k.x rest outside out (and_left (is_known plain t x) (then_all behind (text_step (Took t) x)) h) k.some),
+      behind_leads k.x k.goes,
+    )
+role_leads plain Next t next behind left Q x rest outside outer out next_leads behind_leads l h = cc
+role_leads plain Last t next behind left Q x rest outside outer out next_leads behind_leads l h = cc
+role_leads plain Ends t next behind left Q x rest outside outer out next_leads behind_leads l h =
+    let k = then_some (end_step t x) next (and_right (is_known plain t x) (then_all next (end_step t x)) h) in (
+      in_state rest outside outer k.x,
+      ap (option_map (λ y. y ∷ outer)) (end_more plain t x k.x rest outside out (and_left (is_known plain t x) (then_all next (end_step t x)) h) k.some),
+      next_leads k.x k.goes,
+    )
 
 -- ---- parts
 
@@ -152,77 +166,142 @@ found : (es : List Effect) (next : List Tag → Bool) (ts : List Tag) → by_eff
 found [] next ts h = cc
 found (e ∷ es) next ts h = found_by (fit e.0 ts) e es next ts refl (found es next ts) h
 
-part_leads : (p : declared.Part) (d : ℕ) (next : List Tag → Bool) (left : Left) (Q : State → Type 0) (ts rest : List Tag) (outer : State)
-    → ((us : List Tag) → next us ≡ true → Leads left (in_state rest outer us) Q) → by_effects (effects p) next ts ≡ true → Leads (symbol.Part p d ∷ left) (in_state rest outer ts) Q
-part_leads p d next left Q ts rest outer next_leads h =
-    let k = found (effects p) next ts h in
-    let whole : ts ++ rest ≡ k.effect.0 ++ (k.rest ++ rest) = ap (λ xs. xs ++ rest) (fit_front k.effect.0 ts k.rest k.fits) ∙ append_assoc k.effect.0 k.rest rest in (
-      map (in_state (k.rest ++ rest) outer) k.effect.1,
-      over k.effect.0 k.effect.1 (k.rest ++ rest) outer (in_state rest outer ts) (map (in_state (k.rest ++ rest) outer) k.effect.1) (k.number, k.among) (ap (λ xs. xs ∷ outer) whole) refl,
+-- what is open outside a part that may begin there
+record Within (b : Bounds) (os ls outside : List Bool) : Type 0 where
+  more : List Bool
+  stands : Stands b more
+  before : os ++ outside ≡ front b ++ more
+  behind : ls ++ outside ≡ more
+
+within_plain : (plain : Bool) (ls outside : List Bool) → Outside plain outside → (if plain then Some [] else None) ≡ Some ls → Within Plain [] ls outside
+within_plain true ls outside out h =
+    let same : [] ≡ ls = cc in
+    record { more = outside; stands = out refl; before = refl; behind = ap (λ xs. xs ++ outside) (sym same) }
+within_plain false ls outside out h = cc
+
+within : (b : Bounds) (plain : Bool) (os ls outside : List Bool) → Outside plain outside → open_behind b plain os ≡ Some ls → Within b os ls outside
+within Any plain os ls outside out h =
+    let same : os ≡ ls = cc in
+    record { more = os ++ outside; stands = tt; before = refl; behind = ap (λ xs. xs ++ outside) (sym same) }
+within Plain plain [] ls outside out h = within_plain plain ls outside out h
+within Plain plain (true ∷ os) ls outside out h = cc
+within Plain plain (false ∷ os) ls outside out h =
+    let same : false ∷ os ≡ ls = cc in
+    record { more = false ∷ (os ++ outside); stands = refl; before = refl; behind = ap (λ xs. xs ++ outside) (sym same) }
+within Closes plain [] ls outside out h = cc
+within Closes plain (true ∷ os) ls outside out h = cc
+within Closes plain (false ∷ os) ls outside out h =
+    let same : os ≡ ls = cc in
+    record { more = os ++ outside; stands = tt; before = refl; behind = ap (λ xs. xs ++ outside) (sym same) }
+
+still_so : (w : Waits) → is_still w ≡ true → w ≡ Still
+still_so Still h = refl
+still_so Opening h = cc
+still_so Closing h = cc
+
+record Opened (es : List Effect) (next : Text → Bool) (ts : List Tag) (o : Option (List Bool)) : Type 0 where
+  ls : List Bool
+  some : o ≡ Some ls
+  goes : by_effects es (λ us. next (us, ls, Still)) ts ≡ true
+
+opened_some : (es : List Effect) (next : Text → Bool) (ts : List Tag) (o : Option (List Bool)) → by_openings es next ts o ≡ true → Opened es next ts o
+opened_some es next ts None h = cc
+opened_some es next ts (Some ls) h = record { ls = ls; some = refl; goes = h }
+
+part_leads : (plain : Bool) (p : declared.Part) (d : ℕ) (next : Text → Bool) (left : Left) (Q : State → Type 0) (x : Text) (rest : List Tag) (outside : List Bool) (outer : State) → Outside plain outside
+    → ((y : Text) → next y ≡ true → Leads left (in_state rest outside outer y) Q) → by_part plain p next x ≡ true → Leads (symbol.Part p d ∷ left) (in_state rest outside outer x) Q
+part_leads plain p d next left Q x rest outside outer out next_leads h =
+    let still = still_so x.2 (and_left (is_still x.2) (by_openings (effects p) next x.0 (open_behind (bounds p) plain x.1)) h) in
+    let o = opened_some (effects p) next x.0 (open_behind (bounds p) plain x.1) (and_right (is_still x.2) (by_openings (effects p) next x.0 (open_behind (bounds p) plain x.1)) h) in
+    let w = within (bounds p) plain x.1 o.ls outside out o.some in
+    let k = found (effects p) (λ us. next (us, o.ls, Still)) x.0 o.goes in
+    let whole : x.0 ++ rest ≡ k.effect.0 ++ (k.rest ++ rest) = ap (λ xs. xs ++ rest) (fit_front k.effect.0 x.0 k.rest k.fits) ∙ append_assoc k.effect.0 k.rest rest in
+    let begins : in_state rest outside outer x ≡ in_state (k.rest ++ rest) w.more outer (k.effect.0, front (bounds p), Still) =
+    ap (λ ts. (ts, x.1 ++ outside, x.2) ∷ outer) whole
+    ∙ (ap (λ os. (k.effect.0 ++ (k.rest ++ rest), os, x.2) ∷ outer) w.before ∙ ap (λ v. (k.effect.0 ++ (k.rest ++ rest), front (bounds p) ++ w.more, v) ∷ outer) still) in (
+      map (behind_part (k.rest ++ rest) w.more outer) k.effect.1,
+      over k.effect.0 k.effect.1 (k.rest ++ rest) w.more outer (in_state rest outside outer x) (map (behind_part (k.rest ++ rest) w.more outer) k.effect.1) (k.number, k.among) w.stands begins refl,
       λ now a.
-          let x = among_map (in_state (k.rest ++ rest) outer) k.effect.1 a.0 now a.1 in
-          let goes = all_at (λ us. next (us ++ k.rest)) k.effect.1 a.0 x.0 x.2 k.all in
-          subst (λ s. Leads left s Q) (ap (λ xs. xs ∷ outer) (append_assoc x.0 k.rest rest) ∙ sym x.1) (next_leads (x.0 ++ k.rest) goes),
+          let y = among_map (behind_part (k.rest ++ rest) w.more outer) k.effect.1 a.0 now a.1 in
+          let goes = all_at (λ us. next (us ++ k.rest, o.ls, Still)) k.effect.1 a.0 y.0 y.2 k.all in
+          let same : in_state rest outside outer (y.0 ++ k.rest, o.ls, Still) ≡ behind_part (k.rest ++ rest) w.more outer y.0 =
+          ap (λ ts. (ts, o.ls ++ outside, Still) ∷ outer) (append_assoc y.0 k.rest rest) ∙ ap (λ os. (y.0 ++ (k.rest ++ rest), os, Still) ∷ outer) w.behind in
+          subst (λ s. Leads left s Q) (same ∙ sym y.1) (next_leads (y.0 ++ k.rest, o.ls, Still) goes),
     )
 
 -- ---- rules
 
-abbrev EndsIn : List Tag → State → List (List Tag) → State → Type 0
-EndsIn rest outer behinds now = Among now (map (in_state rest outer) behinds)
+abbrev EndsIn : List Tag → List Bool → State → List (List Tag) → State → Type 0
+EndsIn rest outside outer behinds now = Among now (map (behind_part rest outside outer) behinds)
 
-record IsSound (d : ℕ) (rule : Rule) (behinds : List (List Tag)) (rest : List Tag) (outer : State) : Type 0 where
-  next : (ts : List Tag) → follows rule behinds ts ≡ true → Leads (map (at d) rule) (in_state rest outer ts) (EndsIn rest outer behinds)
-  behind : (ts : List Tag) → follows_bodies rule behinds ts ≡ true → Leads (map (at d) rule) ((tag.Text ∷ []) ∷ in_state rest outer ts) (EndsIn rest outer behinds)
+record IsSound (plain : Bool) (d : ℕ) (rule : Rule) (behinds : List (List Tag)) (rest : List Tag) (outside : List Bool) (outer : State) : Type 0 where
+  next : (x : Text) → follows plain rule behinds x ≡ true → Leads (map (at d) rule) (in_state rest outside outer x) (EndsIn rest outside outer behinds)
+  behind : (x : Text) → follows_bodies plain rule behinds x ≡ true → Leads (map (at d) rule) (fresh ∷ in_state rest outside outer x) (EndsIn rest outside outer behinds)
 
 are_bodies : (p : declared.Part) → is_bodies p ≡ true → p ≡ part.BodyTexts
 are_bodies part.BodyTexts h = refl
 are_bodies _ h = cc
 
-bodies_lead : (p : declared.Part) (d : ℕ) (left : Left) (Q : State → Type 0) (us : List Tag) (outer : State) → p ≡ part.BodyTexts → Leads left (us ∷ outer) Q
-    → Leads (symbol.Part p d ∷ left) ((tag.Text ∷ []) ∷ us ∷ outer) Q
-bodies_lead p d left Q us outer e h =
-    subst (λ q. Leads (symbol.Part q d ∷ left) ((tag.Text ∷ []) ∷ us ∷ outer) Q) (sym e) (
-      (us ∷ outer) ∷ [],
-      bodies us outer ((tag.Text ∷ []) ∷ us ∷ outer) ((us ∷ outer) ∷ []) refl refl,
-      λ now a. subst (λ x. Leads left x Q) (sym (one_among (us ∷ outer) now a)) h,
+bodies_lead : (p : declared.Part) (d : ℕ) (left : Left) (Q : State → Type 0) (x : Text) (outer : State) → p ≡ part.BodyTexts → Leads left (x ∷ outer) Q
+    → Leads (symbol.Part p d ∷ left) (fresh ∷ x ∷ outer) Q
+bodies_lead p d left Q x outer e h =
+    subst (λ q. Leads (symbol.Part q d ∷ left) (fresh ∷ x ∷ outer) Q) (sym e) (
+      (x ∷ outer) ∷ [],
+      bodies x outer (fresh ∷ x ∷ outer) ((x ∷ outer) ∷ []) refl refl,
+      λ now a. subst (λ s. Leads left s Q) (sym (one_among (x ∷ outer) now a)) h,
     )
 
-sound : (d : ℕ) (rule : Rule) (behinds : List (List Tag)) (rest : List Tag) (outer : State) → IsSound d rule behinds rest outer
-sound d [] behinds rest outer = record {
-  next = λ ts h. let k = any_among ts behinds h in (k.0, map_among (in_state rest outer) behinds k.0 ts k.1);
-  behind = λ ts h. cc;
+none_open : (bs : List Bool) → same_bools bs [] ≡ true → bs ≡ []
+none_open [] h = refl
+none_open (b ∷ bs) h = cc
+
+-- the end of a rule
+rule_ends : (behinds : List (List Tag)) (x : Text) (rest : List Tag) (outside : List Bool) (outer : State) → ends_so behinds x ≡ true → EndsIn rest outside outer behinds (in_state rest outside outer x)
+rule_ends behinds x rest outside outer h =
+    let still = still_so x.2 (and_left (is_still x.2) (same_bools x.1 [] && list_any (same_tags x.0) behinds) h) in
+    let more = and_right (is_still x.2) (same_bools x.1 [] && list_any (same_tags x.0) behinds) h in
+    let none = none_open x.1 (and_left (same_bools x.1 []) (list_any (same_tags x.0) behinds) more) in
+    let k = any_among x.0 behinds (and_right (same_bools x.1 []) (list_any (same_tags x.0) behinds) more) in
+    let same : behind_part rest outside outer x.0 ≡ in_state rest outside outer x =
+    ap (λ os. (x.0 ++ rest, os ++ outside, Still) ∷ outer) (sym none) ∙ ap (λ v. (x.0 ++ rest, x.1 ++ outside, v) ∷ outer) (sym still) in
+    (k.0, map_among (behind_part rest outside outer) behinds k.0 x.0 k.1 ∙ ap (λ s. Some s) same)
+
+sound : (plain : Bool) (d : ℕ) (rule : Rule) (behinds : List (List Tag)) (rest : List Tag) (outside : List Bool) (outer : State) → Outside plain outside → IsSound plain d rule behinds rest outside outer
+sound plain d [] behinds rest outside outer out = record {
+  next = λ x h. rule_ends behinds x rest outside outer h;
+  behind = λ x h. cc;
 }
-sound d (place.Token c ∷ rule) behinds rest outer =
-    let more = sound d rule behinds rest outer in
+sound plain d (place.Token c ∷ rule) behinds rest outside outer out =
+    let more = sound plain d rule behinds rest outside outer out in
     record {
-      next = λ ts h t e l.
-          let test : Kind → Bool = λ k. by_role (role_of k) (follows rule behinds) (follows_bodies rule behinds) (mode_in c, k) ts in
-          let taken : by_role (role_of t.1) (follows rule behinds) (follows_bodies rule behinds) (mode_in c, t.1) ts ≡ true = kind_taken c test t.1 h (and_right (takes_in c t.0) (takes c t.1) e) in
-          role_leads (role_of t.1) t (follows rule behinds) (follows_bodies rule behinds) (map (at d) rule) (EndsIn rest outer behinds) ts rest outer more.next more.behind l
-          (subst (λ m. by_role (role_of t.1) (follows rule behinds) (follows_bodies rule behinds) (m, t.1) ts ≡ true) (mode_taken c t.0 (and_left (takes_in c t.0) (takes c t.1) e)) taken);
-      behind = λ ts h. cc;
+      next = λ x h t e l.
+          let test : Kind → Bool = λ k. by_role plain (role_of k) (follows plain rule behinds) (follows_bodies plain rule behinds) (mode_in c, k) x in
+          let taken : by_role plain (role_of t.1) (follows plain rule behinds) (follows_bodies plain rule behinds) (mode_in c, t.1) x ≡ true = kind_taken c test t.1 h (and_right (takes_in c t.0) (takes c t.1) e) in
+          role_leads plain (role_of t.1) t (follows plain rule behinds) (follows_bodies plain rule behinds) (map (at d) rule) (EndsIn rest outside outer behinds) x rest outside outer out more.next more.behind l
+          (subst (λ m. by_role plain (role_of t.1) (follows plain rule behinds) (follows_bodies plain rule behinds) (m, t.1) x ≡ true) (mode_taken c t.0 (and_left (takes_in c t.0) (takes c t.1) e)) taken);
+      behind = λ x h. cc;
     }
-sound d (place.Part p ∷ rule) behinds rest outer =
-    let more = sound d rule behinds rest outer in
+sound plain d (place.Part p ∷ rule) behinds rest outside outer out =
+    let more = sound plain d rule behinds rest outside outer out in
     record {
-      next = λ ts h. part_leads p d (follows rule behinds) (map (at d) rule) (EndsIn rest outer behinds) ts rest outer more.next h;
-      behind = λ ts h.
-          bodies_lead p d (map (at d) rule) (EndsIn rest outer behinds) (ts ++ rest) outer (are_bodies p (and_left (is_bodies p) (follows rule behinds ts) h))
-          (more.next ts (and_right (is_bodies p) (follows rule behinds ts) h));
+      next = λ x h. part_leads plain p d (follows plain rule behinds) (map (at d) rule) (EndsIn rest outside outer behinds) x rest outside outer out more.next h;
+      behind = λ x h.
+          bodies_lead p d (map (at d) rule) (EndsIn rest outside outer behinds) (over_rest rest outside x) outer (are_bodies p (and_left (is_bodies p) (follows plain rule behinds x) h))
+          (more.next x (and_right (is_bodies p) (follows plain rule behinds x) h));
     }
-sound d (place.Inside p ∷ rule) behinds rest outer =
-    let more = sound d rule behinds rest outer in
+sound plain d (place.Inside p ∷ rule) behinds rest outside outer out =
+    let more = sound plain d rule behinds rest outside outer out in
     record {
-      next = λ ts h. part_leads p (suc d) (follows rule behinds) (map (at d) rule) (EndsIn rest outer behinds) ts rest outer more.next h;
-      behind = λ ts h. cc;
+      next = λ x h. part_leads plain p (suc d) (follows plain rule behinds) (map (at d) rule) (EndsIn rest outside outer behinds) x rest outside outer out more.next h;
+      behind = λ x h. cc;
     }
-sound d (place.Make m ∷ rule) behinds rest outer =
-    let more = sound d rule behinds rest outer in
+sound plain d (place.Make m ∷ rule) behinds rest outside outer out =
+    let more = sound plain d rule behinds rest outside outer out in
     record {
-      next = λ ts h.
-          let k = then_some (step (Marked m) ts) (follows rule behinds) h in
-          (in_state rest outer k.ts, ap (option_map (λ us. us ∷ outer)) (step_more (Marked m) ts k.ts rest k.some), more.next k.ts k.goes);
-      behind = λ ts h. cc;
+      next = λ x h.
+          let k = then_some (text_step (Marked m) x) (follows plain rule behinds) h in
+          (in_state rest outside outer k.x, ap (option_map (λ y. y ∷ outer)) (marked_more m x k.x rest outside k.some), more.next k.x k.goes);
+      behind = λ x h. cc;
     }
 
 one_rule : (x y : Rule) (j : ℕ) → slice_get (x ∷ []) j ≡ Some y → x ≡ y
@@ -230,45 +309,45 @@ one_rule x y zero e = cc
 one_rule x y (suc j) e = cc
 
 -- in the text of a body, within another
-abbrev in_body : List Tag → State → State
-in_body us outer = (tag.Text ∷ []) ∷ us ∷ outer
+abbrev in_body : Text → State → State
+in_body x outer = fresh ∷ x ∷ outer
 
-abbrev BehindBodies : List Tag → State → State → Type 0
-BehindBodies us outer now = Among now ((us ∷ outer) ∷ [])
+abbrev BehindBodies : Text → State → State → Type 0
+BehindBodies x outer now = Among now ((x ∷ outer) ∷ [])
 
 -- a body, and what ends it
-body_lead : (d : ℕ) (us : List Tag) (outer : State) → Leads (symbol.Part (part.Text mode.Body) d ∷ symbol.Part part.BodyEnd d ∷ []) (in_body us outer) (BehindBodies us outer)
-body_lead d us outer = (
-  in_body us outer ∷ [],
-  over (tag.Text ∷ []) ((tag.Text ∷ []) ∷ []) [] (us ∷ outer) (in_body us outer) (in_body us outer ∷ []) (0, refl) refl refl,
-  λ now a. ((us ∷ outer) ∷ [], body_end us outer now ((us ∷ outer) ∷ []) (one_among (in_body us outer) now a) refl, λ last b. b),
+body_lead : (d : ℕ) (x : Text) (outer : State) → Leads (symbol.Part (part.Text mode.Body) d ∷ symbol.Part part.BodyEnd d ∷ []) (in_body x outer) (BehindBodies x outer)
+body_lead d x outer = (
+  in_body x outer ∷ [],
+  over (tag.Text ∷ []) ((tag.Text ∷ []) ∷ []) [] [] (x ∷ outer) (in_body x outer) (in_body x outer ∷ []) (0, refl) tt refl refl,
+  λ now a. ((x ∷ outer) ∷ [], body_end x outer now ((x ∷ outer) ∷ []) (one_among (in_body x outer) now a) refl, λ last b. b),
 )
 
-turn_kind : (t : Token) (k : Kind) (s : State) (now : State) → same_kind k t.1 ≡ true → turn_by (role_of k) (Took t) (tag.Text ∷ []) s ≡ Some now → turn_by (role_of t.1) (Took t) (tag.Text ∷ []) s ≡ Some now
-turn_kind t k s now e h = ap (λ l. turn_by (role_of l) (Took t) (tag.Text ∷ []) s) (sym (same_kinds k t.1 e)) ∙ h
+turn_kind : (t : Token) (k : Kind) (s : State) (now : State) → same_kind k t.1 ≡ true → text_turn_by (role_of k) (Took t) fresh s ≡ Some now → text_turn_by (role_of t.1) (Took t) fresh s ≡ Some now
+turn_kind t k s now e h = ap (λ l. text_turn_by (role_of l) (Took t) fresh s) (sym (same_kinds k t.1 e)) ∙ h
 
-next_leads : (d : ℕ) (us : List Tag) (outer : State) → Leads (symbol.Token (One mode.Body kind.BodyNext) ∷ symbol.Part part.BodyTexts d ∷ []) (in_body us outer) (BehindBodies us outer)
-next_leads d us outer t e l = (
-  in_body us outer,
-  turn_kind t kind.BodyNext (us ∷ outer) (in_body us outer) (and_right (takes_in (One mode.Body kind.BodyNext) t.0) (takes (One mode.Body kind.BodyNext) t.1) e) refl,
-  ((us ∷ outer) ∷ [], bodies us outer (in_body us outer) ((us ∷ outer) ∷ []) refl refl, λ now a. a),
+next_leads : (d : ℕ) (x : Text) (outer : State) → Leads (symbol.Token (One mode.Body kind.BodyNext) ∷ symbol.Part part.BodyTexts d ∷ []) (in_body x outer) (BehindBodies x outer)
+next_leads d x outer t e l = (
+  in_body x outer,
+  turn_kind t kind.BodyNext (x ∷ outer) (in_body x outer) (and_right (takes_in (One mode.Body kind.BodyNext) t.0) (takes (One mode.Body kind.BodyNext) t.1) e) refl,
+  ((x ∷ outer) ∷ [], bodies x outer (in_body x outer) ((x ∷ outer) ∷ []) refl refl, λ now a. a),
 )
 
-last_leads : (us : List Tag) (outer : State) → Leads (symbol.Token (One mode.Body kind.BodyLast) ∷ []) (in_body us outer) (BehindBodies us outer)
-last_leads us outer t e l = (
-  us ∷ outer,
-  turn_kind t kind.BodyLast (us ∷ outer) (us ∷ outer) (and_right (takes_in (One mode.Body kind.BodyLast) t.0) (takes (One mode.Body kind.BodyLast) t.1) e) refl,
+last_leads : (x : Text) (outer : State) → Leads (symbol.Token (One mode.Body kind.BodyLast) ∷ []) (in_body x outer) (BehindBodies x outer)
+last_leads x outer t e l = (
+  x ∷ outer,
+  turn_kind t kind.BodyLast (x ∷ outer) (x ∷ outer) (and_right (takes_in (One mode.Body kind.BodyLast) t.0) (takes (One mode.Body kind.BodyLast) t.1) e) refl,
   (0, refl),
 )
 
-end_leads : (d : ℕ) (us : List Tag) (outer : State) (j : ℕ) (rule : Rule) → slice_get (rules part.BodyEnd) j ≡ Some rule → Leads (map (at d) rule) (in_body us outer) (BehindBodies us outer)
-end_leads d us outer zero rule e =
+end_leads : (d : ℕ) (x : Text) (outer : State) (j : ℕ) (rule : Rule) → slice_get (rules part.BodyEnd) j ≡ Some rule → Leads (map (at d) rule) (in_body x outer) (BehindBodies x outer)
+end_leads d x outer zero rule e =
     let same : (place.Token (One mode.Body kind.BodyNext) ∷ place.Part part.BodyTexts ∷ []) ≡ rule = cc in
-    subst (λ r. Leads (map (at d) r) (in_body us outer) (BehindBodies us outer)) same (next_leads d us outer)
-end_leads d us outer (suc zero) rule e =
+    subst (λ r. Leads (map (at d) r) (in_body x outer) (BehindBodies x outer)) same (next_leads d x outer)
+end_leads d x outer (suc zero) rule e =
     let same : (place.Token (One mode.Body kind.BodyLast) ∷ []) ≡ rule = cc in
-    subst (λ r. Leads (map (at d) r) (in_body us outer) (BehindBodies us outer)) same (last_leads us outer)
-end_leads d us outer (suc (suc j)) rule e = cc
+    subst (λ r. Leads (map (at d) r) (in_body x outer) (BehindBodies x outer)) same (last_leads x outer)
+end_leads d x outer (suc (suc j)) rule e = cc
 
 -- what leads from one state to others leads from and to equal ones
 moved_to : (d : ℕ) (rule : Rule) (left : Left) (s s' : State) (outs outs' : List State) → left ≡ map (at d) rule → s ≡ s' → outs ≡ outs'
@@ -278,15 +357,23 @@ moved_to d rule left s s' outs outs' el es eo h =
     (subst (λ xs. Leads (map (at d) rule) s (λ now. Among now xs)) (sym eo)
     (subst (λ x. Leads (map (at d) rule) x (λ now. Among now outs')) (sym es) h))
 
+stands_outside : (b : Bounds) (outside : List Bool) → Stands b outside → Outside (is_plain b) outside
+stands_outside Any outside h e = cc
+stands_outside Plain outside h e = h
+stands_outside Closes outside h e = cc
+
 -- a rule of a part, where the part comes
 pub rule_leads : (p : declared.Part) (d : ℕ) (left : Left) (s : State) (outs : List State) → IsRuleOf rules anywhere p d left → Goes p s outs → Leads left s (λ now. Among now outs)
-rule_leads p d left s outs r (over before behinds rest outer s' outs' a es eo) =
+rule_leads p d left s outs r (over before behinds rest outside outer s' outs' a b es eo) =
+    let plain : Bool = is_plain (bounds p) in
+    let x : Text = (before, front (bounds p), Still) in
     let followed = all_at is_followed parts (all_parts p).0 p (all_parts p).1 all_followed in
-    let each = all_at (λ (e : Effect). list_all (λ rule. follows rule e.1 e.0) (rules p)) (effects p) a.0 (before, behinds) a.1 followed in
-    let own = all_at (λ rule. follows rule behinds before) (rules p) r.0 r.1 r.2 each in
-    moved_to d r.1 left s (in_state rest outer before) outs (map (in_state rest outer) behinds) r.4 es eo ((sound d r.1 behinds rest outer).next before own)
-rule_leads p d left s outs r (bodies us outer s' outs' es eo) =
-    moved_to d r.1 left s (in_body us outer) outs ((us ∷ outer) ∷ []) r.4 es eo
-    (subst (λ x. Leads (map (at d) x) (in_body us outer) (BehindBodies us outer)) (one_rule (place.Part (part.Text mode.Body) ∷ place.Part part.BodyEnd ∷ []) r.1 r.0 r.2) (body_lead d us outer))
-rule_leads p d left s outs r (body_end us outer s' outs' es eo) =
-    moved_to d r.1 left s (in_body us outer) outs ((us ∷ outer) ∷ []) r.4 es eo (end_leads d us outer r.0 r.1 r.2)
+    let each = all_at (λ (e : Effect). list_all (λ rule. follows plain rule e.1 (e.0, front (bounds p), Still)) (rules p)) (effects p) a.0 (before, behinds) a.1 followed in
+    let own = all_at (λ rule. follows plain rule behinds x) (rules p) r.0 r.1 r.2 each in
+    moved_to d r.1 left s (in_state rest outside outer x) outs (map (behind_part rest outside outer) behinds) r.4 es eo
+    ((sound plain d r.1 behinds rest outside outer (stands_outside (bounds p) outside b)).next x own)
+rule_leads p d left s outs r (bodies x outer s' outs' es eo) =
+    moved_to d r.1 left s (in_body x outer) outs ((x ∷ outer) ∷ []) r.4 es eo
+    (subst (λ rule. Leads (map (at d) rule) (in_body x outer) (BehindBodies x outer)) (one_rule (place.Part (part.Text mode.Body) ∷ place.Part part.BodyEnd ∷ []) r.1 r.0 r.2) (body_lead d x outer))
+rule_leads p d left s outs r (body_end x outer s' outs' es eo) =
+    moved_to d r.1 left s (in_body x outer) outs ((x ∷ outer) ∷ []) r.4 es eo (end_leads d x outer r.0 r.1 r.2)

@@ -1,3 +1,4 @@
+pub mod HereWords
 pub mod Moves
 pub mod Tags
 pub mod Texts

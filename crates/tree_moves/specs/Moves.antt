@@ -53,7 +53,7 @@ on ts top = map (λ t. (t ∷ [], top ++ t ∷ [])) ts
 -- ---- values in parentheses
 
 abbrev pub values : List Tag
-values = tag.Value ∷ tag.ValueWord ∷ tag.ValueNamed ∷ tag.ValueBroken ∷ []
+values = tag.Value ∷ tag.ValueWord ∷ tag.ValueNamed ∷ tag.ValueTypeset ∷ tag.ValueBroken ∷ []
 
 -- words that wait for what comes behind them
 abbrev pub wholes : List Tag
@@ -73,13 +73,14 @@ settled _ v = tag.Value
 -- a newline or `;` behind entries
 abbrev pub broken : Tag → Tag
 broken tag.ValueNamed = tag.ValueBroken
+broken tag.ValueTypeset = tag.ValueBroken
 broken tag.ValueBroken = tag.ValueBroken
 broken _ = tag.Value
 
 -- `typeset` behind entries
 abbrev pub declared : Tag → Tag
-declared tag.ValueWord = tag.ValueNamed
-declared tag.ValueNamed = tag.ValueNamed
+declared tag.ValueWord = tag.ValueTypeset
+declared tag.ValueNamed = tag.ValueTypeset
 declared _ = tag.Value
 
 abbrev pub join_all : List (List Row) → List Row
@@ -103,7 +104,7 @@ simples = tag.SimpleEmpty ∷ tag.SimpleName ∷ tag.Simple ∷ []
 
 -- what takes a word, what it is behind the word, and what it is before the first
 abbrev pub takers : List (Tag × Tag)
-takers = (tag.Simple, tag.Simple) ∷ (tag.ForWords, tag.ForWords) ∷ (tag.Case, tag.CaseWord) ∷ (tag.Patterns, tag.Patterns) ∷ (tag.Operands, tag.Operands) ∷ (tag.Value, tag.Value) ∷ []
+takers = (tag.Simple, tag.Simple) ∷ (tag.ForWords, tag.ForWords) ∷ (tag.Case, tag.CaseWord) ∷ (tag.Patterns, tag.Patterns) ∷ (tag.OperandsNone, tag.OperandsOne) ∷ (tag.OperandsUnary, tag.Operands) ∷ (tag.OperandsBinary, tag.Operands) ∷ (tag.OperandsBoth, tag.Operands) ∷ (tag.Value, tag.Value) ∷ []
 
 abbrev pub redirected : List Tag
 redirected = tag.Simple ∷ tag.Compound ∷ []
@@ -126,9 +127,9 @@ word_ends =
 abbrev pub start_word : Tag → List Row
 start_word start =
     map (λ t. row t (tag.Text ∷ start ∷ tag.Simple ∷ [])) simples
-    ++ on (tag.ForWords ∷ tag.Case ∷ tag.Patterns ∷ tag.Operands ∷ tag.Redirection ∷ tag.HereOperator ∷ []) (tag.Text ∷ start ∷ [])
+    ++ on (tag.ForWords ∷ tag.Case ∷ tag.Patterns ∷ tag.OperandsUnary ∷ tag.OperandsBinary ∷ tag.OperandsBoth ∷ tag.Redirection ∷ tag.HereOperator ∷ []) (tag.Text ∷ start ∷ [])
     ++ row tag.Cases (tag.Text ∷ start ∷ tag.Patterns ∷ tag.Cases ∷ [])
-    ∷ row tag.Terms (tag.Text ∷ start ∷ tag.Operands ∷ tag.Terms ∷ [])
+    ∷ row tag.Terms (tag.Text ∷ start ∷ tag.OperandsNone ∷ tag.Terms ∷ [])
     ∷ in_value [] (λ v. tag.Text ∷ start ∷ tag.Value ∷ [])
 
 -- an assignment that begins
@@ -138,6 +139,17 @@ start_assignment top = map (λ t. row t (top ++ tag.Simple ∷ [])) simples ++ i
 -- the first word of a simple command, of that kind
 abbrev pub first_word : Kind → Tag
 first_word k = if are_in words.DottedName k then tag.SimpleName else tag.Simple
+
+-- the first word of a term, of that kind, and the word behind the name of a test of one word
+abbrev pub first_operand : Kind → Tag
+first_operand k = if same_kind k kind.Unary then tag.OperandsUnary else tag.OperandsOne
+
+abbrev pub behind_unary : Kind → Tag
+behind_unary k = if same_kind k kind.Binary then tag.OperandsBoth else tag.Operands
+
+-- the name of a test of two words behind a word
+abbrev pub behind_operand : Kind → List Row
+behind_operand k = if same_kind k kind.Binary then row tag.OperandsOne (tag.OperandsBinary ∷ []) ∷ [] else []
 
 -- a word of plain bytes where it belongs to what stands there
 abbrev pub plain_word : Kind → List Row
@@ -149,12 +161,14 @@ plain_word k =
     ∷ row tag.Case (tag.CaseWord ∷ [])
     ∷ row tag.Patterns (tag.Patterns ∷ [])
     ∷ row tag.Cases (tag.Patterns ∷ tag.Cases ∷ [])
-    ∷ row tag.Operands (tag.Operands ∷ [])
-    ∷ row tag.Terms (tag.Operands ∷ tag.Terms ∷ [])
+    ∷ row tag.Terms (first_operand k ∷ tag.Terms ∷ [])
+    ∷ row tag.OperandsUnary (behind_unary k ∷ [])
+    ∷ row tag.OperandsBinary (tag.Operands ∷ [])
+    ∷ row tag.OperandsBoth (tag.Operands ∷ [])
     ∷ (tag.Redirection ∷ tag.Simple ∷ [], tag.Simple ∷ [])
     ∷ (tag.Redirection ∷ tag.Compound ∷ [], tag.Compound ∷ [])
     ∷ row tag.HereOperator (tag.HereWord ∷ [])
-    ∷ []
+    ∷ behind_operand k
 
 -- what a word of plain bytes is among the entries of a value
 abbrev pub whole_of : Kind → Tag
@@ -281,7 +295,7 @@ between_rows m kind.StartAssignment = start_word tag.AssignmentStart
 between_rows m kind.Element = start_assignment (tag.Target ∷ [])
 between_rows m kind.ValueOpen = start_assignment (tag.Assigning ∷ [])
 between_rows m kind.Key = in_value [] (λ v. tag.Text ∷ tag.Bracket ∷ tag.Value ∷ [])
-between_rows mode.Condition kind.Order = same tag.Operands
+between_rows mode.Condition kind.Order = row tag.OperandsOne (tag.OperandsBinary ∷ []) ∷ row tag.OperandsUnary (tag.OperandsBinary ∷ []) ∷ []
 between_rows m kind.Order = []
 between_rows m k = word_rows m k
 
@@ -290,17 +304,17 @@ between_rows m k = word_rows m k
 abbrev pub parameter_rows : Kind → List Row
 parameter_rows kind.Length = row tag.BracesValue (tag.BracesLength ∷ []) ∷ []
 parameter_rows kind.Target = row tag.BracesValue (tag.BracesTarget ∷ []) ∷ []
-parameter_rows kind.Name = row tag.BracesValue (tag.ParameterPath ∷ []) ∷ row tag.BracesLength (tag.AskedPath ∷ []) ∷ row tag.BracesTarget (tag.AskedName ∷ []) ∷ []
+parameter_rows kind.Name = row tag.BracesValue (tag.ParameterPath ∷ []) ∷ row tag.BracesLength (tag.AskedPath ∷ []) ∷ row tag.BracesTarget (tag.TargetPath ∷ []) ∷ []
 parameter_rows kind.Digits = row tag.BracesValue (tag.ParameterOther ∷ []) ∷ row tag.BracesLength (tag.AskedOther ∷ []) ∷ []
 parameter_rows kind.Special = row tag.BracesValue (tag.ParameterOther ∷ []) ∷ row tag.BracesLength (tag.AskedOther ∷ []) ∷ []
 parameter_rows _ = []
 
 -- what goes on with a path
 abbrev pub path_goes_on : List Tag → List Row
-path_goes_on top = row tag.ParameterPath (top ++ tag.ParameterPath ∷ []) ∷ row tag.AskedName (top ++ tag.AskedPath ∷ []) ∷ row tag.AskedPath (top ++ tag.AskedPath ∷ []) ∷ []
+path_goes_on top = on (tag.ParameterPath ∷ tag.TargetPath ∷ tag.AskedPath ∷ []) top
 
 abbrev pub parameters : List Tag
-parameters = tag.ParameterPath ∷ tag.ParameterOther ∷ tag.AskedName ∷ tag.AskedPath ∷ tag.AskedOther ∷ []
+parameters = tag.ParameterPath ∷ tag.ParameterOther ∷ tag.TargetPath ∷ tag.AskedPath ∷ tag.AskedOther ∷ []
 
 abbrev pub begin_form : Tag → List Row
 begin_form form = row tag.ParameterPath (tag.Text ∷ form ∷ []) ∷ row tag.ParameterOther (tag.Text ∷ form ∷ []) ∷ []
@@ -309,7 +323,7 @@ abbrev pub form_rows : Kind → List Row
 form_rows kind.Open = path_goes_on (tag.Text ∷ tag.Bracket ∷ [])
 form_rows kind.Member = path_goes_on []
 form_rows kind.Items = path_goes_on []
-form_rows kind.Prefix = row tag.AskedName (tag.ParameterOther ∷ []) ∷ row tag.AskedPath (tag.ParameterOther ∷ []) ∷ []
+form_rows kind.Prefix = row tag.TargetPath (tag.ParameterOther ∷ []) ∷ []
 form_rows kind.Close = map (λ t. (t ∷ tag.Text ∷ [], tag.Text ∷ [])) parameters
 form_rows kind.Instead = begin_form tag.FormedOnce
 form_rows kind.Cut = begin_form tag.FormedOnce
@@ -339,6 +353,7 @@ close_text mode.Subscript =
     (tag.Subscript ∷ tag.Value ∷ [], tag.Keyed ∷ tag.Value ∷ [])
     ∷ (tag.Subscript ∷ tag.ParameterPath ∷ [], tag.ParameterPath ∷ [])
     ∷ (tag.Subscript ∷ tag.AskedPath ∷ [], tag.AskedPath ∷ [])
+    ∷ (tag.Subscript ∷ tag.TargetPath ∷ [], tag.TargetPath ∷ [])
     ∷ (tag.Subscript ∷ tag.Target ∷ [], tag.Target ∷ [])
     ∷ same tag.Text
 close_text mode.Arithmetic =
@@ -395,16 +410,22 @@ compound_ends =
     (tag.Compound ∷ tag.Stages ∷ [], tag.Finished ∷ tag.Stages ∷ [])
     ∷ (tag.Compound ∷ tag.FunctionName ∷ tag.Stages ∷ [], tag.Finished ∷ tag.Stages ∷ [])
     ∷ (tag.Compound ∷ tag.ValueNamed ∷ [], tag.Value ∷ [])
+    ∷ (tag.Compound ∷ tag.ValueTypeset ∷ [], tag.Value ∷ [])
     ∷ (tag.Compound ∷ tag.ValueBroken ∷ [], tag.Value ∷ [])
     ∷ map (λ v. (tag.Compound ∷ tag.FunctionName ∷ v ∷ [], tag.Value ∷ [])) values
 
 abbrev pub member_body : List Row
 member_body =
     row tag.ValueNamed (tag.MemberBody ∷ tag.ValueNamed ∷ [])
+    ∷ row tag.ValueTypeset (tag.MemberBody ∷ tag.ValueTypeset ∷ [])
     ∷ row tag.ValueBroken (tag.MemberBody ∷ tag.ValueBroken ∷ [])
     ∷ (tag.WholeName ∷ tag.ValueWord ∷ [], tag.MemberBody ∷ tag.ValueNamed ∷ [])
     ∷ (tag.WholeName ∷ tag.ValueNamed ∷ [], tag.MemberBody ∷ tag.ValueNamed ∷ [])
     ∷ []
+
+-- what is a whole term
+abbrev pub terms : List Tag
+terms = tag.OperandsOne ∷ tag.OperandsUnary ∷ tag.OperandsBoth ∷ tag.Operands ∷ tag.Tested ∷ []
 
 -- none for what is told for others
 abbrev pub mark_rows : Mark → Option (List Row)
@@ -415,7 +436,7 @@ mark_rows mark.AndOrBegins = Some (row tag.Lines (tag.NoLink ∷ tag.Lines ∷ [
 mark_rows mark.ListEnds = Some (row tag.Lines (tag.Listed ∷ []) ∷ end_chain (tag.Listed ∷ []))
 mark_rows mark.CompoundEnds = Some compound_ends
 mark_rows mark.SubscriptEnds = Some ((tag.Text ∷ tag.Bracket ∷ [], tag.Subscript ∷ []) ∷ [])
-mark_rows mark.TermEnds = Some ((tag.Operands ∷ tag.Terms ∷ [], tag.Terms ∷ []) ∷ (tag.Tested ∷ tag.Terms ∷ [], tag.Terms ∷ []) ∷ [])
+mark_rows mark.TermEnds = Some (map (λ t. (t ∷ tag.Terms ∷ [], tag.Terms ∷ [])) terms)
 mark_rows mark.MemberBody = Some member_body
 mark_rows _ = None
 

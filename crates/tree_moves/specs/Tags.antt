@@ -19,8 +19,8 @@ pub data Tag : Type 0 where
   ParameterPath : Tag
   -- `${` and any parameter
   ParameterOther : Tag
-  -- `${!` and a name
-  AskedName : Tag
+  -- `${!` and a path
+  TargetPath : Tag
   -- `${#` or `${!` and a path
   AskedPath : Tag
   -- `${#` or `${!` and any parameter
@@ -47,12 +47,22 @@ pub data Tag : Type 0 where
   WholeName : Tag
   -- a word that is an assignment
   WholeAssignment : Tag
+  -- any word
+  AnyWhole : Tag
+  -- the name of a test of one word
+  WholeUnary : Tag
+  -- that of a test of two words
+  WholeBinary : Tag
   -- the path before a subscript of an assignment
   Target : Tag
   -- the same where no assignment goes on
   Element : Tag
   -- a path with its `=` or `+=`
   Assigning : Tag
+  -- an assignment
+  Assigned : Tag
+  -- an assignment, or a word that is none
+  Given : Tag
   -- the operator of a redirection
   Redirection : Tag
   -- the operator of a here-document
@@ -61,6 +71,8 @@ pub data Tag : Type 0 where
   HereWord : Tag
   -- the same where the body begins
   HereBody : Tag
+  -- a redirection
+  Redirected : Tag
   -- a simple command of which nothing was read
   SimpleEmpty : Tag
   -- one of which one word was read, plain bytes that are names
@@ -75,12 +87,16 @@ pub data Tag : Type 0 where
   StagesFirst : Tag
   -- any pipeline
   Stages : Tag
+  -- a whole pipeline
+  Piped : Tag
   -- a list of pipelines of which none was read
   NoLink : Tag
   -- pipelines, the last with `&&` or `||`
   Linked : Tag
   -- either
   Link : Tag
+  -- a whole list of pipelines
+  Chain : Tag
   -- commands of a list
   Lines : Tag
   -- a whole list
@@ -135,13 +151,25 @@ pub data Tag : Type 0 where
   Function : Tag
   -- a function with its name
   FunctionName : Tag
+  -- a whole function
+  Defined : Tag
   -- `[[`
   ConditionCommand : Tag
   -- `(` in a condition
   Nested : Tag
   -- terms of a condition
   Terms : Tag
-  -- words of a term
+  -- no word of a term
+  OperandsNone : Tag
+  -- one word
+  OperandsOne : Tag
+  -- one, which is the name of a test of one word
+  OperandsUnary : Tag
+  -- two, of which the last is the name of a test of two words
+  OperandsBinary : Tag
+  -- such names both
+  OperandsBoth : Tag
+  -- words that are a test
   Operands : Tag
   -- a term's test
   Tested : Tag
@@ -149,9 +177,11 @@ pub data Tag : Type 0 where
   Value : Tag
   -- the same, of which the last is a word of plain bytes that are names
   ValueWord : Tag
-  -- the same, of which the last two are a word of plain bytes, and one of names or `typeset`
+  -- the same, of which the last two are such words
   ValueNamed : Tag
-  -- the same with newlines or `;` behind
+  -- the same, of which the last two are such a word and `typeset`
+  ValueTypeset : Tag
+  -- either with newlines or `;` behind
   ValueBroken : Tag
   -- the place before the `{` of a function among members
   MemberBody : Tag
@@ -168,7 +198,7 @@ tag_number BracesLength = 4
 tag_number BracesTarget = 5
 tag_number ParameterPath = 6
 tag_number ParameterOther = 7
-tag_number AskedName = 8
+tag_number TargetPath = 8
 tag_number AskedPath = 9
 tag_number AskedOther = 10
 tag_number FormedOnce = 11
@@ -182,61 +212,76 @@ tag_number AssignmentStart = 18
 tag_number Whole = 19
 tag_number WholeName = 20
 tag_number WholeAssignment = 21
-tag_number Target = 22
-tag_number Element = 23
-tag_number Assigning = 24
-tag_number Redirection = 25
-tag_number HereOperator = 26
-tag_number HereWord = 27
-tag_number HereBody = 28
-tag_number SimpleEmpty = 29
-tag_number SimpleName = 30
-tag_number Simple = 31
-tag_number Compound = 32
-tag_number Finished = 33
-tag_number StagesFirst = 34
-tag_number Stages = 35
-tag_number NoLink = 36
-tag_number Linked = 37
-tag_number Link = 38
-tag_number Lines = 39
-tag_number Listed = 40
-tag_number Group = 41
-tag_number Subshell = 42
-tag_number ArithmeticCommand = 43
-tag_number If = 44
-tag_number Then = 45
-tag_number Else = 46
-tag_number Loop = 47
-tag_number LoopBody = 48
-tag_number ForLoop = 49
-tag_number ForSelect = 50
-tag_number ForName = 51
-tag_number ForWords = 52
-tag_number ForReady = 53
-tag_number ForBody = 54
-tag_number ForArithmeticNone = 55
-tag_number ForArithmeticOne = 56
-tag_number ForArithmeticTwo = 57
-tag_number ForArithmeticThree = 58
-tag_number ForArithmeticBody = 59
-tag_number Case = 60
-tag_number CaseWord = 61
-tag_number Cases = 62
-tag_number Patterns = 63
-tag_number Function = 64
-tag_number FunctionName = 65
-tag_number ConditionCommand = 66
-tag_number Nested = 67
-tag_number Terms = 68
-tag_number Operands = 69
-tag_number Tested = 70
-tag_number Value = 71
-tag_number ValueWord = 72
-tag_number ValueNamed = 73
-tag_number ValueBroken = 74
-tag_number MemberBody = 75
-tag_number Keyed = 76
+tag_number AnyWhole = 22
+tag_number WholeUnary = 23
+tag_number WholeBinary = 24
+tag_number Target = 25
+tag_number Element = 26
+tag_number Assigning = 27
+tag_number Assigned = 28
+tag_number Given = 29
+tag_number Redirection = 30
+tag_number HereOperator = 31
+tag_number HereWord = 32
+tag_number HereBody = 33
+tag_number Redirected = 34
+tag_number SimpleEmpty = 35
+tag_number SimpleName = 36
+tag_number Simple = 37
+tag_number Compound = 38
+tag_number Finished = 39
+tag_number StagesFirst = 40
+tag_number Stages = 41
+tag_number Piped = 42
+tag_number NoLink = 43
+tag_number Linked = 44
+tag_number Link = 45
+tag_number Chain = 46
+tag_number Lines = 47
+tag_number Listed = 48
+tag_number Group = 49
+tag_number Subshell = 50
+tag_number ArithmeticCommand = 51
+tag_number If = 52
+tag_number Then = 53
+tag_number Else = 54
+tag_number Loop = 55
+tag_number LoopBody = 56
+tag_number ForLoop = 57
+tag_number ForSelect = 58
+tag_number ForName = 59
+tag_number ForWords = 60
+tag_number ForReady = 61
+tag_number ForBody = 62
+tag_number ForArithmeticNone = 63
+tag_number ForArithmeticOne = 64
+tag_number ForArithmeticTwo = 65
+tag_number ForArithmeticThree = 66
+tag_number ForArithmeticBody = 67
+tag_number Case = 68
+tag_number CaseWord = 69
+tag_number Cases = 70
+tag_number Patterns = 71
+tag_number Function = 72
+tag_number FunctionName = 73
+tag_number Defined = 74
+tag_number ConditionCommand = 75
+tag_number Nested = 76
+tag_number Terms = 77
+tag_number OperandsNone = 78
+tag_number OperandsOne = 79
+tag_number OperandsUnary = 80
+tag_number OperandsBinary = 81
+tag_number OperandsBoth = 82
+tag_number Operands = 83
+tag_number Tested = 84
+tag_number Value = 85
+tag_number ValueWord = 86
+tag_number ValueNamed = 87
+tag_number ValueTypeset = 88
+tag_number ValueBroken = 89
+tag_number MemberBody = 90
+tag_number Keyed = 91
 
 abbrev pub same_tag : Tag → Tag → Bool
 same_tag t u = tag_number t == tag_number u

@@ -3,6 +3,7 @@
 //! The steps of a builder are a table over tags of its frames, and each rule of the grammar keeps to it.
 #![tactic(auto)]
 
+ghost use Rattle.tree_moves.specs.HereWords.{WordsAgree};
 ghost use Rattle.tree_moves.specs.Texts.{TextsMove};
 ghost use Rattle.tree_moves.specs.Turns.{NeverStrays};
 
@@ -18,4 +19,11 @@ pub fn no_script_strays()
 #[tactic(auto, using(crate::proofs::Cuts::texts_move))]
 pub fn no_text_strays()
     ensures { TextsMove }
+{}
+
+/// Where a token ends the word of a here-document, as what is open in a text tells, there the tags are those of an operator with its
+/// word, and nowhere else.
+#[tactic(auto, using(crate::proofs::Theorem::words_agree))]
+pub fn tags_know_here_words()
+    ensures { WordsAgree }
 {}

@@ -1,0 +1,10 @@
+pub mod Conditions
+pub mod Fitting
+pub mod Notes
+pub mod Openings
+pub mod Passing
+pub mod Seen
+pub mod Standing
+pub mod Steps
+pub mod Theorem
+pub mod Turns
