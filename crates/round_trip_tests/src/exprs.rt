@@ -51,12 +51,7 @@ impl Maker {
     pub fn new_expr(&mut self) -> Result<ArithExpr, Memory> {
         match self.random.below(8) {
             0 => {
-                let op = match self.random.below(4) {
-                    0 => UnaryOp::Plus,
-                    1 => UnaryOp::Minus,
-                    2 => UnaryOp::Not,
-                    _ => UnaryOp::Complement,
-                };
+                let op = self.unary_op();
                 let operand = self.boxed()?;
                 Ok(ArithExpr::Unary(op, operand))
             }
@@ -86,6 +81,15 @@ impl Maker {
                 Ok(ArithExpr::Assign { path, op, value })
             }
             _ => self.chain(),
+        }
+    }
+
+    fn unary_op(&mut self) -> UnaryOp {
+        match self.random.below(4) {
+            0 => UnaryOp::Plus,
+            1 => UnaryOp::Minus,
+            2 => UnaryOp::Not,
+            _ => UnaryOp::Complement,
         }
     }
 

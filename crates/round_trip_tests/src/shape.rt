@@ -202,6 +202,12 @@ impl<'a> Shape<'a> {
                 self.list(body)?;
                 self.redirects(redirects.as_slice())
             }
+            _ => self.joined(command),
+        }
+    }
+
+    fn joined(&mut self, command: &'a Command) -> Result<(), Memory> {
+        match command {
             Command::Function { definition } => {
                 self.mark(b'f')?;
                 self.function(definition.get())
@@ -331,6 +337,12 @@ impl<'a> Shape<'a> {
                 self.list(body)?;
                 self.redirects(redirects.as_slice())
             }
+            _ => self.select(command),
+        }
+    }
+
+    fn select(&mut self, command: &'a Command) -> Result<(), Memory> {
+        match command {
             Command::Select {
                 name,
                 words,
@@ -554,26 +566,25 @@ impl<'a> Shape<'a> {
             ParamForm::Slice { from, count } => {
                 self.mark(b':')?;
                 self.word(from)?;
-                self.flag(count.is_some())?;
-                match count {
-                    Some(count) => self.word(count),
-                    None => Ok(()),
-                }
+                self.maybe_word(count)
             }
             ParamForm::Replace {
                 which,
                 pattern,
                 with,
             } => {
-                self.mark(match which {
-                    Replaced::First => b'1',
-                    Replaced::All => b'*',
-                    Replaced::Front => b'<',
-                    Replaced::Tail => b'>',
-                })?;
+                self.mark(replaced_mark(*which))?;
                 self.word(pattern)?;
                 self.word(with)
             }
+        }
+    }
+
+    fn maybe_word(&mut self, word: &'a Option<Word>) -> Result<(), Memory> {
+        self.flag(word.is_some())?;
+        match word {
+            Some(word) => self.word(word),
+            None => Ok(()),
         }
     }
 
@@ -634,6 +645,12 @@ impl<'a> Shape<'a> {
                 self.put(Part::Expr(exponent.get()))
             }
             ArithExpr::Chain(first, links) => self.chain(first.get(), links.as_slice()),
+            _ => self.choice(expr),
+        }
+    }
+
+    fn choice(&mut self, expr: &'a ArithExpr) -> Result<(), Memory> {
+        match expr {
             ArithExpr::Choice(test, yes, no) => {
                 self.mark(b'?')?;
                 self.put(Part::Expr(test.get()))?;
@@ -649,6 +666,7 @@ impl<'a> Shape<'a> {
                 })?;
                 self.put(Part::Expr(value.get()))
             }
+            _ => Ok(()),
         }
     }
 
@@ -661,6 +679,15 @@ impl<'a> Shape<'a> {
             self.put(Part::Expr(&link.operand))?;
         }
         Ok(())
+    }
+}
+
+fn replaced_mark(which: Replaced) -> u8 {
+    match which {
+        Replaced::First => b'1',
+        Replaced::All => b'*',
+        Replaced::Front => b'<',
+        Replaced::Tail => b'>',
     }
 }
 
