@@ -46,7 +46,7 @@ def run(program, options, script):
 
 
 def is_built(ran):
-    return b"syntax fault" not in ran.stderr and b"the script is not built" not in ran.stderr
+    return b"syntax fault" not in ran.stderr
 
 
 def main():

@@ -1,5 +1,5 @@
 -- What is built while a script is heard.
-use Rattle.std.specs.Prelude.{◌≡◌, ℕ, List, [], ◌∷◌, Some, None, Result, Ok, Err, IfErr}
+use Rattle.std.specs.Prelude.{◌≡◌, ℕ, List, [], ◌∷◌, Some, None, Result, Ok, Err, IfErr, IfOk}
 use Rattle.std.proofs.Common.{refl, sym, subst}
 use Rattle.ksh_ast.specs.declared.tree.Item.{Item}
 use Rattle.ksh_lexer.specs.declared.fault.SyntaxFault.{SyntaxFault}
@@ -19,7 +19,7 @@ use Rattle.tree_build.specs.declared.unbuilt.Unbuilt.{Unbuilt}
 use Rattle.tree_build.specs.Frames.{Keeps, Stands}
 use Rattle.tree_build.specs.Heard.{Heard}
 use Rattle.tree_build.specs.Reads.{Reads}
-use Rattle.ksh_parser.specs.Heard.{heard, heard_before}
+use Rattle.ksh_parser.specs.Heard.{heard}
 use Rattle.ksh_parser.specs.Tree.{Follows, IsBuilt, IsScriptText, IsTree}
 
 -- whatever is heard of the rest, with it all of the notes is heard, and the frames have read what stands before
@@ -44,6 +44,12 @@ finishes script notes old new frames tree over whole builds =
     let b = builds [] over in
     let s : Stands script (heard script b.0) (Listed tree ∷ []) [] = subst (λ fs. Stands script (heard script b.0) fs []) whole b.2 in
     record { events = b.0; in_order = b.1; read = subst (λ (hs : List Heard). Reads script hs [] (Listed tree)) (sym s.1) s.2 }
+
+-- the same where the list is answered
+pub gives_built : (script : List ℕ) (notes : Notes) (old new : List NotePlace) (frames : List Frame) (r : Result (List Item) Unbuilt) → Hears notes.texts None old new
+    → IfOk r (λ tree. frames ≡ Listed tree ∷ []) → Builds script notes.texts old frames → IfOk r (λ tree. IsBuilt script notes tree)
+gives_built script notes old new frames (Ok tree) over whole builds = finishes script notes old new frames tree over whole builds
+gives_built script notes old new frames (Err e) over whole builds = tt
 
 pub is_tree : (text : List ℕ) (notes : Notes) (tree : List Item) → IsNoted text notes → IsBuilt text notes tree → IsTree text tree
 is_tree text notes tree noted built = record { notes = notes; noted = noted; built = built }

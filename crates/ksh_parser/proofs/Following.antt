@@ -10,7 +10,7 @@ use Rattle.tree_build.specs.Frames.{Grows, GrowsIn, Stands}
 use Rattle.tree_build.specs.Heard.{BodyBegins, BodyEnds, Lexed, Marked}
 use Rattle.tree_parts.specs.declared.sign.Moment.{Moment}
 use Rattle.tree_parts.specs.declared.sign.Sign.{Sign}
-use Rattle.ksh_parser.specs.Heard.{heard_before, is_end}
+use Rattle.ksh_parser.specs.Heard.{is_end}
 use Rattle.ksh_parser.specs.Tree.{Follows}
 
 -- the end of the script

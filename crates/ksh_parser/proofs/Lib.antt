@@ -1,2 +1,5 @@
 pub mod Following
 pub mod Building
+pub mod OnTop
+pub mod Going
+pub mod Hearing

@@ -8,9 +8,6 @@ pub enum Unparsed {
     /// The text's first fault.
     #[error("syntax fault at line {}, byte {}", .0.place.line, .0.place.byte)]
     Fault(SyntaxFault),
-    /// The text is a script, and the builder of trees stopped at something in it.
-    #[error("not built")]
-    NotBuilt,
     #[error("out of memory")]
     Memory,
 }

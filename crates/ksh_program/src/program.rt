@@ -1,7 +1,6 @@
 //! The commands of a text.
 ghost use Rattle.std.specs.Prelude.{◌≡◌, IfOk, IsErrOf, MatchResult};
 ghost use Rattle.ksh_lexer.specs.declared.fault.SyntaxFault.{SyntaxFault};
-ghost use Rattle.ksh_parser.specs.Tree.{IsScriptText};
 ghost use Rattle.ksh_lower.specs.Lowers.{Lowers};
 ghost use Rattle.ksh_parser.specs.declared.refused.Unparsed.TheVariants as unparsed;
 ghost use Rattle.ksh_scan.specs.Scan.{HasFault};
@@ -31,7 +30,6 @@ fn lower_tree(alloc: Global, tree: Tree) -> Result<List, Unparsed>
 pub fn read_program(alloc: Global, text: &[u8]) -> Result<List, Unparsed>
     ensures program { IfOk result (λ l. IsProgram text.now l) }
     ensures fault { (f : SyntaxFault) → IsErrOf result (Unparsed.Fault f) → HasFault text.now f }
-    ensures not_built { IsErrOf result Unparsed.NotBuilt → IsScriptText text.now }
 {
     match parse_script(alloc, text) {
         Ok(tree) => lower_tree(alloc, tree),

@@ -19,7 +19,7 @@ use Rattle.ksh_run.specs.declared.check.Checked.TheVariants.{Fine, Refused}
 use Rattle.ksh_run.specs.Top.{EndsBoth, EndsBy, EndsCheck, EndsList, EndsPlan, EndsText, HasRoot, IsFine, IsLost, IsRun, IsUnasked, RanOut, Refuses}
 use Rattle.ksh_run.specs.declared.ended.Ended.{Ended}
 use Rattle.ksh_run.specs.declared.ended.Why.{Why}
-use Rattle.ksh_run.specs.declared.ended.Why.TheVariants.{Meant, Usage, Syntax, NotBuilt, SourceFault, Spent, Memory}
+use Rattle.ksh_run.specs.declared.ended.Why.TheVariants.{Meant, Usage, Syntax, SourceFault, Spent, Memory}
 use Rattle.ksh_script.specs.declared.tree.Item.{Item}
 use Rattle.shell_family.specs.Told.{ForTold}
 use Rattle.shell_state.specs.declared.start.Start.{Start}
@@ -54,7 +54,6 @@ module _ {Po A : Type 0} (sees : Po → Seen Start) where
   by_list words plan left before now text list (Usage f) status e planned kept is_text check script l = absurd l
   by_list words plan left before now text list (Syntax f) status e planned kept is_text check script l = absurd l
   by_list words plan left before now text list SourceFault status e planned kept is_text check script l = absurd l
-  by_list words plan left before now text list NotBuilt status e planned kept is_text check script l = absurd l
 
   by_run : (words : List (List ℕ)) (plan : Plan) (left : Option (List ℕ)) (before now : ℕ) (text : List ℕ) (why : Why) (status : ℕ) (root : Option (ShellEnd Po A))
       → words_plan words ≡ Ok plan → now ≡ before → IsText plan.script left text → plan.check ≡ false
@@ -77,9 +76,7 @@ module _ {Po A : Type 0} (sees : Po → Seen Start) where
   by_both false words plan left before now text e planned kept is_text check (inl h) = by_run words plan left before now text e.why e.status e.root planned kept is_text check h
   by_both false words plan left before now text e planned kept is_text check (inr (inl h)) =
       rw h.2 (record { plan = plan; planned = planned; kept = kept; text = text; is_text = is_text; so = h.1 }, h.3, h.4)
-  by_both false words plan left before now text e planned kept is_text check (inr (inr (inl h))) =
-      rw h.1 (record { plan = plan; planned = planned; kept = kept; text = text; is_text = is_text; so = (check, h.0) }, h.2, h.3)
-  by_both false words plan left before now text e planned kept is_text check (inr (inr (inr h))) = by_lost words left before now e.why e.status e.root h
+  by_both false words plan left before now text e planned kept is_text check (inr (inr h)) = by_lost words left before now e.why e.status e.root h
 
   -- how it ends from the plan of the words
   pub by_plan : (words : List (List ℕ)) (plan : Plan) (left : Option (List ℕ)) (before now : ℕ) (e : Ended Po A) → words_plan words ≡ Ok plan → EndsPlan sees plan left before now e
@@ -97,7 +94,7 @@ module _ {Po A : Type 0} (sees : Po → Seen Start) where
   pub refused_text : {B : Type 0} (budget : ℕ) (text : List ℕ) (f : SyntaxFault) (r : Result B Unparsed) (x : Unparsed) (e : Ended Po A)
       → ((k : SyntaxFault) → r ≡ Err (unparsed.Fault k) → scan.HasFault text k) → r ≡ Err x → x ≡ unparsed.Fault f → Refuses sees (Syntax f) (syntax_line f) 2 e → EndsText sees budget text e
   refused_text budget text f r x e has is told (inl h) = inr (inl (f, has f (subst (λ u. r ≡ Err u) told is), h.0, h.1, h.2))
-  refused_text budget text f r x e has is told (inr l) = inr (inr (inr l))
+  refused_text budget text f r x e has is told (inr l) = inr (inr l)
 
 -- what a check says of a text that was read
 refused_by : (words : List (List ℕ)) (plan : Plan) (left : Option (List ℕ)) (before now : ℕ) (text : List ℕ) (status : ℕ) (why : Why) (line : List ℕ)
@@ -106,7 +103,6 @@ refused_by words plan left before now text status (Syntax f) line planned kept i
     (record { plan = plan; planned = planned; kept = kept; text = text; is_text = is_text; so = h.0 }, h.1, h.2)
 refused_by words plan left before now text status (Usage f) line planned kept is_text h = absurd h
 refused_by words plan left before now text status SourceFault line planned kept is_text h = absurd h
-refused_by words plan left before now text status NotBuilt line planned kept is_text h = absurd h
 refused_by words plan left before now text status Meant line planned kept is_text h = absurd h
 refused_by words plan left before now text status Spent line planned kept is_text h = absurd h
 refused_by words plan left before now text status Memory line planned kept is_text h = absurd h
@@ -147,7 +143,6 @@ usage_refused words left before now status (Usage g) line f h e = same_usage wor
 usage_refused words left before now status SourceFault line f h e = absurd (no_plan words h.0.plan f h.0.planned e)
 usage_refused words left before now status (Syntax g) line f h e = absurd (no_plan words h.0.plan f h.0.planned e)
 usage_refused words left before now status Meant line f h e = absurd h
-usage_refused words left before now status NotBuilt line f h e = absurd h
 usage_refused words left before now status Spent line f h e = absurd h
 usage_refused words left before now status Memory line f h e = absurd h
 
@@ -166,7 +161,6 @@ source_refused words left before now status SourceFault line h rose = same_sourc
 source_refused words left before now status (Usage f) line h rose = absurd (rose h.1)
 source_refused words left before now status (Syntax f) line h rose = absurd (rose h.0.kept)
 source_refused words left before now status Meant line h rose = absurd h
-source_refused words left before now status NotBuilt line h rose = absurd h
 source_refused words left before now status Spent line h rose = absurd h
 source_refused words left before now status Memory line h rose = absurd h
 

@@ -11,9 +11,6 @@ usage_line f = codes "kshtree: usage fault " ++ decimal f.kind ++ codes " at wor
 abbrev pub source_line : List ℕ
 source_line = codes "kshtree: cannot read the script" ++ newline
 
-abbrev pub not_built_line : List ℕ
-not_built_line = codes "kshtree: the script is not built" ++ newline
-
 abbrev pub syntax_line : SyntaxFault → List ℕ
 syntax_line f =
     codes "kshtree: syntax fault " ++ decimal (kind_number f.kind) ++ codes " at line " ++ decimal f.place.line ++ codes ", byte " ++ decimal f.place.byte ++ codes ": "

@@ -8,14 +8,13 @@ use Rattle.ksh_base.specs.Words.{words_plan}
 use Rattle.ksh_base.specs.declared.words.Plan.{Plan}
 use Rattle.ksh_meaning.specs.Output.{write}
 use Rattle.ksh_lexer.specs.declared.fault.SyntaxFault.{SyntaxFault}
-use Rattle.ksh_parser.specs.Tree.{IsScriptText}
 use Rattle.ksh_program.specs.Program.{IsProgram}
 use Rattle.ksh_scan.specs.Scan as scan
 use Rattle.ksh_run.specs.Script.{HasText, HasFailed, IsFile, IsText}
-use Rattle.ksh_run.specs.Texts.{not_built_line, source_line, syntax_line, usage_line}
+use Rattle.ksh_run.specs.Texts.{source_line, syntax_line, usage_line}
 use Rattle.ksh_run.specs.declared.ended.Ended.{Ended}
 use Rattle.ksh_run.specs.declared.ended.Why.{Why}
-use Rattle.ksh_run.specs.declared.ended.Why.TheVariants.{Meant, Usage, Syntax, NotBuilt, SourceFault, Spent, Memory}
+use Rattle.ksh_run.specs.declared.ended.Why.TheVariants.{Meant, Usage, Syntax, SourceFault, Spent, Memory}
 use Rattle.ksh_script.specs.declared.tree.Item.{Item}
 use Rattle.shell_family.specs.Family.{Family}
 use Rattle.shell_family.specs.Meaning.{RunTold}
@@ -83,8 +82,6 @@ module _ {Po A : Type 0} (sees : Po → Seen Start) where
       HasFailed words before now (Rose before now) × (status ≡ 122) × HasRoot root (IsRefused source_line 122)
   EndsBy words left before now (Syntax f) status root =
       HasText words left before now (λ plan text. scan.HasFault text f) × (status ≡ 2) × HasRoot root (IsRefused (syntax_line f) 2)
-  EndsBy words left before now NotBuilt status root =
-      HasText words left before now (λ plan text. (plan.check ≡ false) × IsScriptText text) × (status ≡ 1) × HasRoot root (IsRefused not_built_line 1)
   EndsBy words left before now Meant status root =
       HasRoot root (λ e. ((e.stop ≡ stop.Meant) × (e.status ≡ status) × IsRun words left before now e) ⊎ ((status ≡ 0) × IsUnasked e × IsFine words left before now))
   EndsBy words left before now Spent status root =
@@ -128,8 +125,7 @@ module _ {Po A : Type 0} (sees : Po → Seen Start) where
   EndsText budget text e =
       HasRoot e.root (λ r. (list : List Item) × IsProgram text list × EndsList budget list e.why e.status r)
       ⊎ (((f : SyntaxFault) × scan.HasFault text f × (e.why ≡ Syntax f) × (e.status ≡ 2) × HasRoot e.root (IsRefused (syntax_line f) 2))
-      ⊎ ((IsScriptText text × (e.why ≡ NotBuilt) × (e.status ≡ 1) × HasRoot e.root (IsRefused not_built_line 1))
-      ⊎ IsLost e.why e.status e.root))
+      ⊎ IsLost e.why e.status e.root)
 
   -- how it ends from a text that is checked alone: it has no fault, or is refused with its first, or memory ran out
   abbrev pub EndsCheck : List ℕ → Ended Po A → Type 0

@@ -11,8 +11,6 @@ pub enum Why {
     Usage(UsageFault),
     /// The script's text has this fault; status 2.
     Syntax(SyntaxFault),
-    /// The builder of trees stopped at something in the script; status 1.
-    NotBuilt,
     /// The script couldn't be read; status 122.
     SourceFault,
     /// The root spent its budget; status 123.

@@ -11,7 +11,7 @@ ghost use Rattle.ksh_base.specs.declared.source.ReadRefused.{ReadRefused};
 use crate::check::check_root;
 use crate::ended::{Ended, Why};
 use crate::refuse::{lose, refuse, refuse_text, refuse_words};
-use crate::texts::{not_built_text, source_text};
+use crate::texts::source_text;
 use cmd_eval::run_job;
 use kernel_ask::{Port, World};
 use ksh_base::{
@@ -107,10 +107,6 @@ fn run_text<Po: Port<Start> + 'static, P: Spawner + 'static, A: Album<Po> + 'sta
     match read_program(alloc, text) {
         Ok(list) => run_list(alloc, budget, list, port, spawner, album),
         Err(Unparsed::Fault(fault)) => refuse_text(alloc, fault, port, spawner, album),
-        Err(Unparsed::NotBuilt) => match not_built_text(alloc) {
-            Ok(line) => refuse(alloc, port, spawner, album, Why::NotBuilt, 1, line),
-            Err(_) => lose(alloc, port, spawner, album),
-        },
         Err(Unparsed::Memory) => lose(alloc, port, spawner, album),
     }
 }
@@ -188,8 +184,7 @@ fn no_root<Po, A>() -> Ended<Po, A>
 /// comes exactly where the words have that fault, `SourceFault` exactly where a read of this call
 /// failed, `Syntax` with the text's first fault, and each of them has written one line on
 /// handle 2; else the root is a run of the script's commands, and `Meant` and `Spent` are the meaning's.
-/// `NotBuilt` may come for scripts alone; no tree is built of a few of them yet. With `-n` the script is checked
-/// alone: `Meant` has the status 0 then, and nothing was asked. Want of memory may come at each step.
+/// With `-n` the script is checked alone: `Meant` has the status 0 then, and nothing was asked. Want of memory may come at each step.
 pub fn run_shell<
     S: Source,
     W: World<Start> + Drop,

@@ -1,6 +1,6 @@
 // The texts of what is refused before a script runs.
 ghost use Rattle.std.specs.Prelude.{◌≡◌, IfOk};
-ghost use Rattle.ksh_run.specs.Texts.{not_built_line, source_line, syntax_line, usage_line};
+ghost use Rattle.ksh_run.specs.Texts.{source_line, syntax_line, usage_line};
 
 use itoa::Buffer;
 use ksh_base::{Memory, Text, UsageFault};
@@ -26,13 +26,6 @@ pub fn source_text(alloc: Global) -> Result<Text, Memory>
     ensures { IfOk result (λ t. t ≡ source_line) }
 {
     Text::of(alloc, b"kshtree: cannot read the script\n")
-}
-
-/// `kshtree: the script is not built` and a newline.
-pub fn not_built_text(alloc: Global) -> Result<Text, Memory>
-    ensures { IfOk result (λ t. t ≡ not_built_line) }
-{
-    Text::of(alloc, b"kshtree: the script is not built\n")
 }
 
 /// `kshtree: syntax fault K at line L, byte B: KIND` and a newline.

@@ -8,3 +8,4 @@ pub mod Standing
 pub mod Steps
 pub mod Theorem
 pub mod Turns
+pub mod Leading

@@ -13,22 +13,7 @@ use Rattle.tree_moves.specs.Moves.{body_begins, body_ends, by_rows, moves}
 use Rattle.tree_moves.proofs.Below.{body_more, moves_more}
 use Rattle.tree_moves.proofs.Rows.{Replaces, row_or_later}
 use Rattle.tree_moves.proofs.Words.{then_goes}
-use Rattle.note_moves.specs.Heard.{moved_events}
-
--- behind the word of a here-document the tags of its body come and go
-abbrev pub body_heard : List Tag → Option (List Tag)
-body_heard ts = option_and_then (by_rows body_ends) (by_rows body_begins ts)
-
--- no body has the script's number
-abbrev pub moved_note : Note → List Tag → Option (List Tag)
-moved_note (note.Token s) ts = if ends_text s.kind then Some ts else moves (Took (s.mode, s.kind)) ts
-moved_note (note.Mark k m) ts = moves (Marked k) ts
-moved_note (note.Body zero) ts = None
-moved_note (note.Body (suc n)) ts = body_heard ts
-
-abbrev pub moved_notes : List Note → List Tag → Option (List Tag)
-moved_notes [] ts = Some ts
-moved_notes (n ∷ ns) ts = option_and_then (moved_notes ns) (moved_note n ts)
+use Rattle.note_moves.specs.Heard.{Good, body_heard, moved_events, moved_note, moved_notes}
 
 -- ---- notes behind others
 
@@ -55,17 +40,13 @@ note_more (note.Mark k m) ts us more h = moves_more (Marked k) ts us more h
 note_more (note.Body zero) ts us more h = cc
 note_more (note.Body (suc n)) ts us more h = body_more ts us more h
 
-notes_more : (ns : List Note) (ts us more : List Tag) → moved_notes ns ts ≡ Some us → moved_notes ns (ts ++ more) ≡ Some (us ++ more)
+pub notes_more : (ns : List Note) (ts us more : List Tag) → moved_notes ns ts ≡ Some us → moved_notes ns (ts ++ more) ≡ Some (us ++ more)
 notes_more [] ts us more h = let same : ts ≡ us = cc in ap (λ xs. Some (xs ++ more)) same
 notes_more (n ∷ ns) ts us more h =
     let k = then_goes (moved_notes ns) (moved_note n ts) us h in
     ap (option_and_then (moved_notes ns)) (note_more n ts k.x more k.some) ∙ notes_more ns k.x us more k.goes
 
 -- ---- bodies
-
--- each text but the script's leads from no pieces to pieces, as one that is empty does
-abbrev pub Good : List (List Note) → Type 0
-Good texts = (n : ℕ) → moved_notes (text_at (suc n) texts) (tag.Text ∷ []) ≡ Some (tag.Text ∷ [])
 
 at_added : (texts : List (List Note)) (n : ℕ) → text_at n (texts ++ [] ∷ []) ≡ text_at n texts
 at_added [] zero = refl
@@ -99,11 +80,11 @@ first_set (t ∷ texts) k notes h = refl
 none_left : {A : Type 0} (ts us : List Tag) → by_rows [] ts ≡ Some us → A
 none_left ts us h = cc
 
-record Begun (us : List Tag) : Type 0 where
-  rest : List Tag
-  same : us ≡ tag.Text ∷ tag.HereBody ∷ rest
+pub record Begun (us : List Tag) : Type 0 where
+  pub rest : List Tag
+  pub same : us ≡ tag.Text ∷ tag.HereBody ∷ rest
 
-begun : (ts us : List Tag) → by_rows body_begins ts ≡ Some us → Begun us
+pub begun : (ts us : List Tag) → by_rows body_begins ts ≡ Some us → Begun us
 begun ts us h = go (row_or_later (tag.HereWord ∷ [], tag.Text ∷ tag.HereBody ∷ []) [] ts us h)
   where
     go : Replaces (tag.HereWord ∷ [], tag.Text ∷ tag.HereBody ∷ []) ts us ⊎ (by_rows [] ts ≡ Some us) → Begun us

@@ -18,7 +18,8 @@ use Rattle.script_notes.specs.Noted.{adds, awaits_where, sign_of}
 use Rattle.tree_moves.specs.Tags.{Tag}
 use Rattle.tree_moves.specs.Tags as tag
 use Rattle.tree_moves.specs.HereWords.{Text, Waits, Still, is_behind_operator, is_on_top, opened}
-use Rattle.note_moves.proofs.Notes.{Good, good_added, moved_note, moved_notes, notes_then, one_note}
+use Rattle.note_moves.specs.Heard.{Good, moved_note, moved_notes}
+use Rattle.note_moves.proofs.Notes.{good_added, notes_then, one_note}
 use Rattle.note_moves.proofs.Openings.{all_told, is_word, waits_all, words, words_parted}
 use Rattle.note_moves.proofs.Passing.{awaits_none, awaits_one, opened_known}
 use Rattle.note_moves.proofs.Seen.{Facts}

@@ -32,7 +32,8 @@ use Rattle.tree_moves.specs.HereWords as words
 use Rattle.tree_moves.specs.HereWords.{Text, Waits, Still, Opening, Closing, end_step, ends_script, fresh, innermost, is_behind_operator, is_body, is_on_top, is_still, text_step, text_turn, text_turn_by, text_turns, within_text}
 use Rattle.tree_moves.proofs.Words.{guarded, mapped, text_so, then_goes}
 use Rattle.note_moves.proofs.Fitting.{is_inner}
-use Rattle.note_moves.proofs.Notes.{Good, good_set, moved_notes, notes_then}
+use Rattle.note_moves.specs.Heard.{Good, moved_notes}
+use Rattle.note_moves.proofs.Notes.{good_set, notes_then}
 use Rattle.note_moves.proofs.Openings as open_words
 use Rattle.note_moves.proofs.Openings.{waits_all, words_inner}
 use Rattle.note_moves.proofs.Passing.{ends_known, operator_known}

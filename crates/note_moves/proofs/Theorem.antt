@@ -5,19 +5,18 @@ use Rattle.ksh_syntax.specs.Sentences.{Event, Marked, Token, Took}
 use Rattle.ksh_scan.specs.declared.state.Source.{Source}
 use Rattle.ksh_scan.specs.declared.state.State.{State}
 use Rattle.ksh_scan.specs.Scan.{start}
-use Rattle.script_notes.specs.declared.cursor.Event.{Event as Heard}
 use Rattle.script_notes.specs.declared.note.Note.{Note}
 use Rattle.script_notes.specs.declared.noting.Noting.{Noting}
 use Rattle.script_notes.specs.declared.noting.OpenText.{OpenText}
-use Rattle.script_notes.specs.Arranged.{Arranged, text_at}
+use Rattle.script_notes.specs.Arranged.{text_at}
 use Rattle.script_notes.specs.Noted.{Noted, begin, finished, nothing_noted, one_noted}
 use Rattle.tree_moves.specs.Tags.{Tag}
 use Rattle.tree_moves.specs.Tags as tag
 use Rattle.tree_moves.specs.HereWords.{Still, Text, text_turn, text_turns}
 use Rattle.tree_moves.proofs.Theorem.{words_agree}
 use Rattle.tree_moves.proofs.Words.{then_goes}
-use Rattle.note_moves.specs.Heard.{NotesMove, moved_events}
-use Rattle.note_moves.proofs.Notes.{Good, first_set, good_first, heard_moves, moved_notes}
+use Rattle.note_moves.specs.Heard.{Good, Lead, NotesLead, NotesMove, moved_notes}
+use Rattle.note_moves.proofs.Notes.{first_set, good_first, heard_moves}
 use Rattle.note_moves.proofs.Standing.{Holds, Stand}
 use Rattle.note_moves.proofs.Steps.{step_holds}
 
@@ -62,15 +61,18 @@ record Whole (here : Bool) (source : Source) (o : OpenText) (x : Text) : Type 0 
 whole : (here : Bool) (source : Source) (sources : List Source) (o : OpenText) (outer : List OpenText) (x : Text) → Stand here (source ∷ sources) (o ∷ outer) (x ∷ []) → Whole here source o x
 whole here source sources o outer x h = record { number = h.0.number; moved = h.0.moved }
 
-finished_moves : (texts : List (List Note)) (g : Noting) (s : State) (events : List Heard) → texts ≡ finished g → Holds s g ((tag.Listed ∷ [], [], Still) ∷ []) → Arranged texts (text_at 0 texts) events []
-    → moved_events events (tag.Lines ∷ []) ≡ Some (tag.Listed ∷ [])
-finished_moves texts g s events e h a =
+finished_leads : (texts : List (List Note)) (g : Noting) (s : State) → texts ≡ finished g → Holds s g ((tag.Listed ∷ [], [], Still) ∷ []) → Lead texts
+finished_leads texts g s e h =
     let w = whole (is_some s.here) s.source (reverse s.outer) g.text g.outer (tag.Listed ∷ [], [], Still) h.stand in
     let same : texts ≡ slice_set g.texts 0 g.text.notes = e ∙ ap (λ n. slice_set g.texts n g.text.notes) w.number in
     let good : Good texts = subst Good (sym same) (good_first g.texts g.text.notes h.good) in
     let own : text_at 0 texts ≡ g.text.notes = ap (text_at 0) same ∙ first_set g.texts h.count g.text.notes h.some in
-    heard_moves texts good a (tag.Lines ∷ []) (tag.Listed ∷ []) (ap (λ ns. moved_notes ns (tag.Lines ∷ [])) own ∙ w.moved)
+    record { own = ap (λ ns. moved_notes ns (tag.Lines ∷ [])) own ∙ w.moved; bodies = good }
+
+pub notes_lead : NotesLead
+notes_lead text notes n lexed = finished_leads notes.texts n.noting n.state n.given (noted_holds text n.was_noted ((tag.Listed ∷ [], [], Still) ∷ []) (words_agree n.front n.events n.script lexed))
 
 pub notes_move : NotesMove
 notes_move text notes events n lexed heard =
-    finished_moves notes.texts n.noting n.state events n.given (noted_holds text n.was_noted ((tag.Listed ∷ [], [], Still) ∷ []) (words_agree n.front n.events n.script lexed)) heard
+    let l = notes_lead text notes n lexed in
+    heard_moves notes.texts l.bodies heard (tag.Lines ∷ []) (tag.Listed ∷ []) l.own

@@ -18,7 +18,7 @@ use Rattle.tree_moves.specs.HereWords.{Text, Still, agrees, agrees_on_mark, end_
 use Rattle.tree_moves.proofs.Numbers.{tag_same}
 use Rattle.tree_moves.proofs.Rows.{Replaces, row_or_later}
 use Rattle.tree_moves.proofs.Words.{guarded, mapped, then_goes, with_some}
-use Rattle.note_moves.proofs.Notes.{body_heard, moved_notes}
+use Rattle.note_moves.specs.Heard.{body_heard, moved_notes}
 use Rattle.note_moves.proofs.Openings.{waits_all}
 use Rattle.note_moves.proofs.Passing.{same_so}
 

@@ -1,12 +1,14 @@
 -- What is heard of a script's notes moves the tags of a builder's frames.
-use Rattle.std.specs.Prelude.{◌≡◌, ℕ, true, List, [], ◌∷◌, Option, Some, option_and_then, if◌then◌else◌}
+use Rattle.std.specs.Prelude.{◌≡◌, ℕ, zero, suc, true, List, [], ◌∷◌, Option, Some, None, option_and_then, if◌then◌else◌}
 use Rattle.std.specs.List.{list_all}
 use Rattle.ksh_syntax.specs.Sentences.{Took, Marked}
 use Rattle.ksh_scan.specs.Scan.{ends_text}
 use Rattle.script_notes.specs.declared.cursor.Event.{Event}
 use Rattle.script_notes.specs.declared.cursor.Event.TheVariants as event
+use Rattle.script_notes.specs.declared.note.Note.{Note}
+use Rattle.script_notes.specs.declared.note.Note.TheVariants as note
 use Rattle.script_notes.specs.declared.note.Notes.{Notes}
-use Rattle.script_notes.specs.Arranged.{IsHeard}
+use Rattle.script_notes.specs.Arranged.{IsHeard, text_at}
 use Rattle.script_notes.specs.Noted.{IsNoted}
 use Rattle.tree_moves.specs.Tags.{Tag}
 use Rattle.tree_moves.specs.Tags as tag
@@ -29,3 +31,31 @@ moved_events (e ∷ es) ts = option_and_then (moved_events es) (moved_event e ts
 abbrev pub NotesMove : Type 0
 NotesMove = (text : List ℕ) (notes : Notes) (events : List Event) (n : IsNoted text notes) → list_all is_lexed n.front ≡ true → IsHeard notes.texts events
     → moved_events events (tag.Lines ∷ []) ≡ Some (tag.Listed ∷ [])
+
+-- behind the word of a here-document the tags of its body come and go
+abbrev pub body_heard : List Tag → Option (List Tag)
+body_heard ts = option_and_then (by_rows body_ends) (by_rows body_begins ts)
+
+-- the tags behind a note; no body has the script's number
+abbrev pub moved_note : Note → List Tag → Option (List Tag)
+moved_note (note.Token s) ts = if ends_text s.kind then Some ts else moves (Took (s.mode, s.kind)) ts
+moved_note (note.Mark k m) ts = moves (Marked k) ts
+moved_note (note.Body zero) ts = None
+moved_note (note.Body (suc n)) ts = body_heard ts
+
+abbrev pub moved_notes : List Note → List Tag → Option (List Tag)
+moved_notes [] ts = Some ts
+moved_notes (n ∷ ns) ts = option_and_then (moved_notes ns) (moved_note n ts)
+
+-- each text but the script's leads from no pieces to pieces, as one that is empty does
+abbrev pub Good : List (List Note) → Type 0
+Good texts = (n : ℕ) → moved_notes (text_at (suc n) texts) (tag.Text ∷ []) ≡ Some (tag.Text ∷ [])
+
+-- and the script's from no command to one list
+pub record Lead (texts : List (List Note)) : Type 0 where
+  pub own : moved_notes (text_at 0 texts) (tag.Lines ∷ []) ≡ Some (tag.Listed ∷ [])
+  pub bodies : Good texts
+
+-- the same note by note: a builder has a step for each, in whatever order bodies are heard
+abbrev pub NotesLead : Type 0
+NotesLead = (text : List ℕ) (notes : Notes) (n : IsNoted text notes) → list_all is_lexed n.front ≡ true → Lead notes.texts

@@ -1,5 +1,5 @@
 -- The order in which notes are heard.
-use Rattle.std.specs.Prelude.{◌≡◌, ℕ, ◌+◌, List, [], ◌∷◌, drop, slice_get, Option, Some, None}
+use Rattle.std.specs.Prelude.{◌≡◌, ◌⊎◌, ℕ, ◌+◌, List, [], ◌∷◌, drop, slice_get, Option, Some, None}
 use Rattle.ksh_syntax.specs.declared.part.Mark.{Mark}
 use Rattle.tree_parts.specs.declared.sign.Sign.{Sign}
 use Rattle.tree_parts.specs.declared.sign.Moment.{Moment}
@@ -65,3 +65,26 @@ into _ places = places
 
 abbrev pub next_place : NotePlace → NotePlace
 next_place p = place p.text (p.index + 1)
+
+-- the note behind a place is heard
+pub record HearsNote (texts : List (List Note)) (e : Event) (old new : List NotePlace) : Type 0 where
+  pub place : NotePlace
+  pub outer : List NotePlace
+  pub note : Note
+  pub at : old ≡ place ∷ outer
+  pub behind : rest_of texts place ≡ note ∷ rest_of texts (next_place place)
+  pub event : e ≡ told note
+  pub goes : new ≡ into note (next_place place ∷ outer)
+
+-- the body of a here-document ends, and its text goes on outside it
+pub record HearsEnd (texts : List (List Note)) (e : Event) (old new : List NotePlace) : Type 0 where
+  pub place : NotePlace
+  pub at : old ≡ place ∷ new
+  pub over : rest_of texts place ≡ []
+  pub outside : new ≡ [] → ⊥
+  pub event : e ≡ event.BodyEnds
+
+-- one event is heard at the places; or the script's own text is over
+abbrev pub StepsOn : List (List Note) → Option Event → List NotePlace → List NotePlace → Type 0
+StepsOn texts (Some e) old new = HearsNote texts e old new ⊎ HearsEnd texts e old new
+StepsOn texts None old new = (old ≡ []) ⊎ ((p : NotePlace) × (old ≡ p ∷ []) × (rest_of texts p ≡ []))

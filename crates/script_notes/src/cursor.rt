@@ -2,7 +2,7 @@
 ghost use Rattle.std.specs.Prelude.{◌≡◌, [], ◌∷◌, List, IfOk};
 ghost use Rattle.script_notes.specs.declared.cursor.Event.{Event};
 ghost use Rattle.script_notes.specs.declared.note.Note.{Note};
-ghost use Rattle.script_notes.specs.Arranged.{into, told, Hears, IsHeard, Rest};
+ghost use Rattle.script_notes.specs.Arranged.{into, place, told, Hears, IsHeard, Rest, StepsOn};
 
 use crate::note::{Note, Notes};
 use crate::stack::Stack;
@@ -41,7 +41,8 @@ pub struct Cursor {
 impl Cursor {
     /// Nothing was heard yet.
     pub fn new(alloc: Global) -> Result<Cursor, Memory>
-        ensures { IfOk result (λ c. (texts : List (List Note)) (events : List Event) → Rest texts c.places events → IsHeard texts events) }
+        ensures heard { IfOk result (λ c. (texts : List (List Note)) (events : List Event) → Rest texts c.places events → IsHeard texts events) }
+        ensures begins { IfOk result (λ c. c.places ≡ place 0 0 ∷ []) }
     {
         let mut places = Stack::new(alloc);
         places.push(NotePlace { text: 0, index: 0 })?;
@@ -50,7 +51,8 @@ impl Cursor {
 
     /// What is heard next; nothing behind the last. After an error nothing more can be heard.
     pub fn next(&mut self, notes: &Notes) -> Result<Option<Event>, Memory>
-        ensures { IfOk result (λ event. Hears notes.now.texts event self.old.places self.new.places) }
+        ensures heard { IfOk result (λ event. Hears notes.now.texts event self.old.places self.new.places) }
+        ensures steps { IfOk result (λ event. StepsOn notes.now.texts event self.old.places self.new.places) }
     {
         let Some(place) = self.places.pop() else {
             return Ok(None);

@@ -8,7 +8,7 @@ use std::test::Fail;
 #[test]
 fn each_form_has_a_tree(rt: HostRuntime) -> Result<(), Fail> {
     let alloc = rt.alloc();
-    let scripts: [&[u8]; 40] = [
+    let scripts: [&[u8]; 42] = [
         b"",
         b"\n\n",
         b"print a; print b\n",
@@ -48,6 +48,8 @@ fn each_form_has_a_tree(rt: HostRuntime) -> Result<(), Fail> {
         b"while (( i < 3 )); do ((i++)); done",
         b"cat <<A\nA\n",
         b"cat << \\A\n$x `b`\nA\nprint c",
+        b"print ${!x.y@} ${!x[1]@} ${!x[$i].z@} ${!x@}",
+        b"c=(function typeset { :; }); d=(x=1\nfunction typeset\n{ :; }\n)",
         b"print <(a",
     ];
     let mut built = 0u32;
@@ -58,7 +60,7 @@ fn each_form_has_a_tree(rt: HostRuntime) -> Result<(), Fail> {
             Err(why) => return Err(why.into()),
         }
     }
-    assert_eq!(rt; built, 39);
+    assert_eq!(rt; built, 41);
     Ok(())
 }
 

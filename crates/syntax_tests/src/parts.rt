@@ -1,4 +1,4 @@
-use ksh_ast::{Assign, AssignValue, Member, ParamOf, Piece, Test, Word};
+use ksh_ast::{Arith, Assign, AssignValue, Member, ParamOf, Piece, Test, Word};
 use ksh_base::{Items, Memory};
 use ksh_lexer::TokenKind;
 use ksh_syntax::{Kind, Mode};
@@ -92,16 +92,18 @@ fn parameters_and_arithmetic(rt: HostRuntime) -> Result<(), Fail> {
     assert!(rt; matches!(simple_param(alloc, b"ab")?, Some(ParamOf::Var(_))));
     assert!(rt; matches!(simple_param(alloc, b"12")?, Some(ParamOf::Special(_))));
     let parts: [(&[u8], bool, bool); 4] = [
-        (b" \n", true, true),
-        (b"1+2", true, false),
+        (b" \n", true, false),
+        (b"1+2", false, true),
         (b"1+", false, false),
-        (b"", true, true),
+        (b"", true, false),
     ];
-    for (bytes, is_part, is_out) in parts {
+    for (bytes, is_out, is_parsed) in parts {
         let part = part_of_for(alloc, literal_word(alloc, bytes, false)?)?;
         match part {
-            Some(part) => assert!(rt; is_part && part.is_none() == is_out),
-            None => assert!(rt; !is_part),
+            Some(arith) => {
+                assert!(rt; !is_out && matches!(arith, Arith::Parsed(_)) == is_parsed);
+            }
+            None => assert!(rt; is_out),
         }
     }
     Ok(())

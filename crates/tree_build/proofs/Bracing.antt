@@ -16,7 +16,7 @@ use Rattle.tree_parts.specs.declared.sign.Sign.{Sign}
 use Rattle.tree_parts.specs.declared.sign.Moment.{Moment}
 use Rattle.tree_build.specs.Heard.{Lexed, Marked}
 use Rattle.tree_parts.specs.Literals.{from_place, joined}
-use Rattle.tree_parts.specs.Parts.{with_part}
+use Rattle.tree_parts.specs.Parts.{with_part, prefix_of}
 use Rattle.tree_build.specs.Tables.{is_special, opens_bracket}
 use Rattle.tree_build.specs.Reads.{joined_or_each, length_of, target_of, named, special, member, all_items, subscript, names_with_prefix, with_form, with_first_text, opens_subscript, subscript_text}
 use Rattle.tree_build.specs.Frames.{Hears}
@@ -43,8 +43,8 @@ reads_all_items s b joined quoted a path old s1 new e0 o0 last = step_on (Lexed 
 pub reads_subscript : (s : Sign) (b : List ℕ) (ps : List Piece) (quoted : Bool) (a : Asked) (path : TreePath) (old s1 s2 new : List Frame) → s.kind ≡ kind.Close → old ≡ (Subscript ps) ∷ s1 → s1 ≡ (Parameter quoted a (of.Var path)) ∷ s2 → new ≡ Parameter quoted a (of.Var (with_part path (part.Sub ps))) ∷ s2 → Hears (Lexed s b) old new
 reads_subscript s b ps quoted a path old s1 s2 new e0 o0 o1 last = step_close (Lexed s b) (Parameter quoted a (of.Var path)) (Subscript ps) (Parameter quoted a (of.Var (with_part path (part.Sub ps)))) old s1 s2 new (λ script p r q r0 r1. subscript s b ps quoted a path r0 r1 e0) o0 o1 last
 
-pub reads_names_with_prefix : (s : Sign) (b : List ℕ) (quoted : Bool) (name : List ℕ) (old s1 new : List Frame) → s.kind ≡ kind.Prefix → old ≡ (Parameter quoted asked.Target (of.Var (record { name = name; parts = [] }))) ∷ s1 → new ≡ Parameter quoted asked.Value (of.Prefix name) ∷ s1 → Hears (Lexed s b) old new
-reads_names_with_prefix s b quoted name old s1 new e0 o0 last = step_on (Lexed s b) (Parameter quoted asked.Target (of.Var (record { name = name; parts = [] }))) (Parameter quoted asked.Value (of.Prefix name)) old s1 new (λ script p q r0. names_with_prefix s b quoted name r0 e0) o0 last
+pub reads_names_with_prefix : (s : Sign) (b : List ℕ) (quoted : Bool) (path : TreePath) (old s1 new : List Frame) → s.kind ≡ kind.Prefix → old ≡ (Parameter quoted asked.Target (of.Var path)) ∷ s1 → new ≡ Parameter quoted asked.Value (of.Prefix (prefix_of path)) ∷ s1 → Hears (Lexed s b) old new
+reads_names_with_prefix s b quoted path old s1 new e0 o0 last = step_on (Lexed s b) (Parameter quoted asked.Target (of.Var path)) (Parameter quoted asked.Value (of.Prefix (prefix_of path))) old s1 new (λ script p q r0. names_with_prefix s b quoted path r0 e0) o0 last
 
 pub reads_with_form : (s : Sign) (b : List ℕ) (quoted : Bool) (of : ParamOf) (form : Form) (old s1 new : List Frame) → s.token ≡ token.Form form → old ≡ (Parameter quoted asked.Value of) ∷ s1 → new ≡ Formed quoted of form None ∷ s1 → Hears (Lexed s b) old new
 reads_with_form s b quoted of form old s1 new e0 o0 last = step_on (Lexed s b) (Parameter quoted asked.Value of) (Formed quoted of form None) old s1 new (λ script p q r0. with_form s b quoted of form r0 e0) o0 last

@@ -37,7 +37,7 @@ reads_group s b line is old s1 s2 new e0 o0 o1 last = step_close (Lexed s b) (Gr
 pub reads_subshell : (s : Sign) (b : List ℕ) (line : ℕ) (is : List Item) (old s1 s2 new : List Frame) → s.kind ≡ kind.Close → old ≡ (Listed is) ∷ s1 → s1 ≡ (Subshell line) ∷ s2 → new ≡ Compound line (command.Subshell is []) [] ∷ s2 → Hears (Lexed s b) old new
 reads_subshell s b line is old s1 s2 new e0 o0 o1 last = step_close (Lexed s b) (Subshell line) (Listed is) (Compound line (command.Subshell is []) []) old s1 s2 new (λ script p r q r0 r1. subshell s b line is r0 r1 e0) o0 o1 last
 
-pub reads_arithmetic_command : (s : Sign) (b : List ℕ) (line : ℕ) (ps : List Piece) (e : Arith) (old s1 s2 new : List Frame) → s.kind ≡ kind.Close → arith_of ps ≡ Some e → old ≡ (Text ps) ∷ s1 → s1 ≡ (ArithmeticCommand line) ∷ s2 → new ≡ Compound line (command.Arith e []) [] ∷ s2 → Hears (Lexed s b) old new
+pub reads_arithmetic_command : (s : Sign) (b : List ℕ) (line : ℕ) (ps : List Piece) (e : Arith) (old s1 s2 new : List Frame) → s.kind ≡ kind.Close → arith_of ps ≡ e → old ≡ (Text ps) ∷ s1 → s1 ≡ (ArithmeticCommand line) ∷ s2 → new ≡ Compound line (command.Arith e []) [] ∷ s2 → Hears (Lexed s b) old new
 reads_arithmetic_command s b line ps e old s1 s2 new e0 e1 o0 o1 last = step_close (Lexed s b) (ArithmeticCommand line) (Text ps) (Compound line (command.Arith e []) []) old s1 s2 new (λ script p r q r0 r1. arithmetic_command s b line ps e r0 r1 e0 e1) o0 o1 last
 
 pub reads_condition_command : (s : Sign) (b : List ℕ) (line : ℕ) (alternatives : List (List Term)) (terms : List Term) (n : Bool) (old s1 s2 new : List Frame) → s.kind ≡ kind.RightBrackets → old ≡ (Terms alternatives terms n) ∷ s1 → s1 ≡ (ConditionCommand line) ∷ s2 → new ≡ Compound line (command.Cond (alternatives ++ terms ∷ []) []) [] ∷ s2 → Hears (Lexed s b) old new
@@ -88,7 +88,7 @@ reads_for_ends s b line n name ws is old s1 s2 new e0 o0 o1 last = step_close (L
 pub reads_for_arithmetic : (s : Sign) (b : List ℕ) (line : ℕ) (old s1 new : List Frame) → s.kind ≡ kind.DoubleParenthesis → old ≡ (For line false) ∷ s1 → new ≡ ForArithmetic line [] ∷ s1 → Hears (Lexed s b) old new
 reads_for_arithmetic s b line old s1 new e0 o0 last = step_on (Lexed s b) (For line false) (ForArithmetic line []) old s1 new (λ script p q r0. for_arithmetic s b line r0 e0) o0 last
 
-pub reads_for_part : (s : Sign) (b : List ℕ) (line : ℕ) (parts : List (Option Arith)) (part : Option Arith) (ps : List Piece) (old s1 s2 new : List Frame) → ends_part s.kind ≡ true → part_of_for ps ≡ Some part → old ≡ (Text ps) ∷ s1 → s1 ≡ (ForArithmetic line parts) ∷ s2 → new ≡ ForArithmetic line (parts ++ part ∷ []) ∷ s2 → Hears (Lexed s b) old new
+pub reads_for_part : (s : Sign) (b : List ℕ) (line : ℕ) (parts : List (Option Arith)) (part : Option Arith) (ps : List Piece) (old s1 s2 new : List Frame) → ends_part s.kind ≡ true → part_of_for ps ≡ part → old ≡ (Text ps) ∷ s1 → s1 ≡ (ForArithmetic line parts) ∷ s2 → new ≡ ForArithmetic line (parts ++ part ∷ []) ∷ s2 → Hears (Lexed s b) old new
 reads_for_part s b line parts part ps old s1 s2 new e0 e1 o0 o1 last = step_close (Lexed s b) (ForArithmetic line parts) (Text ps) (ForArithmetic line (parts ++ part ∷ [])) old s1 s2 new (λ script p r q r0 r1. for_part s b line parts part ps r0 r1 e0 e1) o0 o1 last
 
 pub reads_for_arithmetic_do : (s : Sign) (b : List ℕ) (line : ℕ) (parts : List (Option Arith)) (old s1 new : List Frame) → s.kind ≡ kind.Do → old ≡ (ForArithmetic line parts) ∷ s1 → new ≡ ForArithmeticBody line parts ∷ s1 → Hears (Lexed s b) old new

@@ -18,7 +18,7 @@ use Rattle.ksh_syntax.specs.declared.kind.Kind.TheVariants as kind
 use Rattle.tree_parts.specs.declared.asked.Asked.TheVariants as asked
 use Rattle.tree_parts.specs.declared.sign.Sign.{Sign}
 use Rattle.tree_parts.specs.Literals.{Adds, literal}
-use Rattle.tree_parts.specs.Parts.{names_of}
+use Rattle.tree_parts.specs.Parts.{names_of, prefix_of}
 use Rattle.tree_build.specs.Counts.{Counts}
 use Rattle.tree_build.specs.Frame.{Frame, Text, Parameter, Assigned, Simple, Listed, ForArithmeticBody, Compound, Whole, FunctionName}
 use Rattle.tree_build.specs.Heard.{Lexed}
@@ -36,18 +36,11 @@ adds_literal s b true ps qs old s1 new is adds o last =
     reads_literal_piece s b adds.0 adds.1 ps old s1 new adds.2 o (last ∙ ap (λ (rs : List Piece). Text rs ∷ s1) adds.3)
 adds_literal s b false ps qs old s1 new is adds o last = absurd (false≢true is)
 
--- `${!x@}` of a name alone
-pub names_prefix : (s : Sign) (b : List ℕ) (quoted : Bool) (path : TreePath) (old s1 new : List Frame) → s.kind ≡ kind.Prefix → path.parts ≡ []
-    → old ≡ Parameter quoted asked.Target (of.Var path) ∷ s1 → new ≡ Parameter quoted asked.Value (of.Prefix path.name) ∷ s1 → Hears (Lexed s b) old new
-names_prefix s b quoted path old s1 new is alone o last =
-    reads_names_with_prefix s b quoted path.name old s1 new is
-    (o ∙ ap (λ (parts : List TreePart). Parameter quoted asked.Target (of.Var (record { name = path.name; parts = parts })) ∷ s1) alone) last
-
--- the same where the parameter is told
-pub takes_prefix : (s : Sign) (b : List ℕ) (quoted : Bool) (path : TreePath) (o : ParamOf) (old s1 new : List Frame) → s.kind ≡ kind.Prefix → path.parts ≡ [] → o ≡ of.Var path
-    → old ≡ Parameter quoted asked.Target o ∷ s1 → new ≡ Parameter quoted asked.Value (of.Prefix path.name) ∷ s1 → Hears (Lexed s b) old new
-takes_prefix s b quoted path o old s1 new is alone var before last =
-    names_prefix s b quoted path old s1 new is alone (before ∙ ap (λ (p : ParamOf). Parameter quoted asked.Target p ∷ s1) var) last
+-- `${!path@}` where the parameter is told
+pub takes_prefix : (s : Sign) (b : List ℕ) (quoted : Bool) (path : TreePath) (o : ParamOf) (old s1 new : List Frame) → s.kind ≡ kind.Prefix → o ≡ of.Var path
+    → old ≡ Parameter quoted asked.Target o ∷ s1 → new ≡ Parameter quoted asked.Value (of.Prefix (prefix_of path)) ∷ s1 → Hears (Lexed s b) old new
+takes_prefix s b quoted path o old s1 new is var before last =
+    reads_names_with_prefix s b quoted path old s1 new is (before ∙ ap (λ (p : ParamOf). Parameter quoted asked.Target p ∷ s1) var) last
 
 -- the one word of a command is a function's name
 pub names_function : (s : Sign) (b : List ℕ) (from line : ℕ) (name : List ℕ) (gs : List Assign) (ws : List Argument) (rs : List (Redirect (List Piece))) (old s1 new : List Frame)

@@ -11,5 +11,14 @@ pub mod Giving
 pub mod Turned
 pub mod Standing
 pub mod Onto
+pub mod Moving
 pub mod Names
 pub mod Parts
+pub mod MovingS
+pub mod MovingP
+pub mod PlacesP
+pub mod MovingQ
+pub mod MovingR
+pub mod Redirecting
+pub mod Ending
+pub mod OneWord

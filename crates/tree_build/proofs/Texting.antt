@@ -41,7 +41,7 @@ reads_formed_expansion s b ps qs quoted of form first made old s1 s2 s3 new e0 e
 pub reads_substitution : (s : Sign) (b : List ℕ) (ps : List Piece) (quoted : Bool) (sk : SubstKind) (is : List Item) (old s1 s2 s3 new : List Frame) → closes sk s.kind ≡ true → old ≡ (Listed is) ∷ s1 → s1 ≡ (Substitution quoted sk) ∷ s2 → s2 ≡ (Text ps) ∷ s3 → new ≡ Text (ps ++ piece.Subst is (subst_kind sk is) quoted ∷ []) ∷ s3 → Hears (Lexed s b) old new
 reads_substitution s b ps quoted sk is old s1 s2 s3 new e0 o0 o1 o2 last = step_close_two (Lexed s b) (Text ps) (Substitution quoted sk) (Listed is) (Text (ps ++ piece.Subst is (subst_kind sk is) quoted ∷ [])) old s1 s2 s3 new (λ script p r t q r0 r1 r2. substitution s b ps quoted sk is r0 r1 r2 e0) o0 o1 o2 last
 
-pub reads_number : (s : Sign) (b : List ℕ) (ps : List Piece) (qs : List Piece) (quoted : Bool) (e : Arith) (old s1 s2 s3 new : List Frame) → s.kind ≡ kind.Close → arith_of qs ≡ Some e → old ≡ (Text qs) ∷ s1 → s1 ≡ (Arithmetic quoted) ∷ s2 → s2 ≡ (Text ps) ∷ s3 → new ≡ Text (ps ++ piece.Number e quoted ∷ []) ∷ s3 → Hears (Lexed s b) old new
+pub reads_number : (s : Sign) (b : List ℕ) (ps : List Piece) (qs : List Piece) (quoted : Bool) (e : Arith) (old s1 s2 s3 new : List Frame) → s.kind ≡ kind.Close → arith_of qs ≡ e → old ≡ (Text qs) ∷ s1 → s1 ≡ (Arithmetic quoted) ∷ s2 → s2 ≡ (Text ps) ∷ s3 → new ≡ Text (ps ++ piece.Number e quoted ∷ []) ∷ s3 → Hears (Lexed s b) old new
 reads_number s b ps qs quoted e old s1 s2 s3 new e0 e1 o0 o1 o2 last = step_close_two (Lexed s b) (Text ps) (Arithmetic quoted) (Text qs) (Text (ps ++ piece.Number e quoted ∷ [])) old s1 s2 s3 new (λ script p r t q r0 r1 r2. number s b ps qs quoted e r0 r1 r2 e0 e1) o0 o1 o2 last
 
 pub reads_opens_substitution : (s : Sign) (b : List ℕ) (sk : SubstKind) (old new : List Frame) → opens_list s.kind ≡ Some sk → new ≡ Substitution (quotes s.mode) sk ∷ old → Hears (Lexed s b) old new

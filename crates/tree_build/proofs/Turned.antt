@@ -29,3 +29,9 @@ turned_top xs count otherwise y all h is = first_is otherwise (reverse xs) y (tu
 pub turned_none : {A : Type 0} (xs : List A) (otherwise : A) → length xs ≡ 0 → top otherwise (reverse xs) ≡ otherwise
 turned_none [] otherwise h = refl
 turned_none (x ∷ xs) otherwise h = absurd (omega (arith, h))
+
+pub none_turned : {A : Type 0} (xs : List A) → reverse xs ≡ [] → xs ≡ []
+none_turned [] e = refl
+none_turned (x ∷ xs) e =
+    let none : length (reverse (x ∷ xs)) ≡ 0 = ap length e in
+    absurd (omega (arith, length-reverse (x ∷ xs), none))

@@ -1,5 +1,5 @@
 -- What frames have read: assignments, redirections, simple commands, words.
-use Rattle.std.specs.Prelude.{◌≡◌, ℕ, ◌+◌, Bool, true, false, List, [], ◌∷◌, ◌++◌, Some}
+use Rattle.std.specs.Prelude.{◌≡◌, ℕ, ◌+◌, Bool, true, false, List, [], ◌∷◌, ◌++◌, Some, None}
 use Rattle.ksh_ast.specs.declared.redirect.Redirect.{Redirect}
 use Rattle.ksh_ast.specs.declared.redirect.RedirectForm.{RedirectForm}
 use Rattle.ksh_ast.specs.declared.redirect.RedirectForm.TheVariants.{HereDoc}
@@ -27,7 +27,7 @@ use Rattle.tree_parts.specs.Literals.{from_place, joined, literal}
 use Rattle.tree_parts.specs.Parts.{adds, assign, assignment_of, path_of, path_word, redirect_form, redirect_to, redirection, with_part}
 use Rattle.tree_build.specs.Tables.{assigns, is_assignment, is_word, starts_word}
 use Rattle.tree_parts.specs.Values.{value_of}
-use Rattle.tree_build.specs.Reads.{slice, word_starts, word, plain_word, order_word, element_word, assignment_word, element, element_member, element_subscript, no_assignment, assigns_element, assigns_value, assigned_word, assigned_value, redirects, redirects_here, redirected, here_word, here_body, here_document, simple_begins, simple_word, first_assignment, later_assignment, simple_redirection, simple}
+use Rattle.tree_build.specs.Reads.{slice, word_starts, word, plain_word, order_word, element_word, assignment_word, assigns_nothing, element, element_member, element_subscript, no_assignment, assigns_element, assigns_value, assigned_word, assigned_value, redirects, redirects_here, redirected, here_word, here_body, here_document, simple_begins, simple_word, first_assignment, later_assignment, simple_redirection, simple}
 use Rattle.tree_build.specs.Frames.{Hears, Keeps, KeepsIn}
 use Rattle.tree_build.proofs.Steps.{step_open, step_on, step_close, step_turn, step_fold, step_fold_in}
 
@@ -45,6 +45,9 @@ reads_order_word s b old new e0 last = step_open (Lexed s b) (Whole (literal b f
 
 pub reads_element_word : (s : Sign) (b : List ℕ) (from : ℕ) (path : TreePath) (ps : List Piece) (old s1 s2 new : List Frame) → s.kind ≡ kind.WordEnd → old ≡ (Text ps) ∷ s1 → s1 ≡ (Element from path) ∷ s2 → new ≡ Whole (joined (path_word path) ps) from s.from false ∷ s2 → Hears (Lexed s b) old new
 reads_element_word s b from path ps old s1 s2 new e0 o0 o1 last = step_close (Lexed s b) (Element from path) (Text ps) (Whole (joined (path_word path) ps) from s.from false) old s1 s2 new (λ script p r q r0 r1. element_word s b from path ps r0 r1 e0) o0 o1 last
+
+pub reads_assigns_nothing : (from : ℕ) (to : ℕ) (ps : List Piece) (old s1 new : List Frame) → assignment_of ps ≡ None → old ≡ (Whole ps from to true) ∷ s1 → new ≡ Whole ps from to false ∷ s1 → Keeps old new
+reads_assigns_nothing from to ps old s1 new e0 o0 last = step_turn (Whole ps from to true) (Whole ps from to false) old s1 new (λ script p q r0. assigns_nothing from to ps r0 e0) o0 last
 
 pub reads_assignment_word : (from : ℕ) (to : ℕ) (ps : List Piece) (a : Assign) (old s1 new : List Frame) → assignment_of ps ≡ Some a → old ≡ (Whole ps from to true) ∷ s1 → new ≡ Assigned a ∷ s1 → Keeps old new
 reads_assignment_word from to ps a old s1 new e0 o0 last = step_turn (Whole ps from to true) (Assigned a) old s1 new (λ script p q r0. assignment_word from to ps a r0 e0) o0 last

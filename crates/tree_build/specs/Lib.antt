@@ -7,4 +7,6 @@ pub mod Silent
 pub mod Reads
 pub mod Frames
 pub mod Counts
+pub mod Fits
+pub mod Fitting
 pub mod Names

@@ -2,7 +2,7 @@
 --
 -- `Reads from to part`: where these tokens are left to be heard at the part's start, and those behind it, what stands between is read
 -- as that part, whole or as far as it goes. So the rules below are those of the grammar, each with what it makes.
-use Rattle.std.specs.Prelude.{◌≡◌, ℕ, ◌+◌, ◌-◌, Bool, true, false, not, List, [], ◌∷◌, ◌++◌, length, Option, Some, None, take, drop, if◌then◌else◌}
+use Rattle.std.specs.Prelude.{◌≡◌, ℕ, ◌+◌, ◌-◌, Bool, true, false, not, List, [], ◌∷◌, ◌++◌, length, Option, Some, None, take, drop, if◌then◌else◌, codes}
 use Rattle.ksh_ast.specs.declared.kinds.SubstKind.{SubstKind}
 use Rattle.ksh_ast.specs.declared.redirect.Redirect.{Redirect}
 use Rattle.ksh_ast.specs.declared.redirect.RedirectForm.{RedirectForm}
@@ -52,7 +52,7 @@ use Rattle.tree_parts.specs.declared.sign.Sign.{Sign}
 use Rattle.tree_parts.specs.declared.sign.Moment.{Moment}
 use Rattle.tree_build.specs.Heard.{Heard, Lexed, Marked, BodyBegins, BodyEnds}
 use Rattle.tree_parts.specs.Literals.{from_place, joined, literal, literal_of, quotes, with_literal}
-use Rattle.tree_parts.specs.Parts.{adds, arith_of, assign, assignment_of, ended_by, formed, is_newline, item, joins, names_of, negated, opens_list, part_of_for, path_of, path_word, piped, plain_form, redirect_form, redirect_to, redirection, simple_param, subst_kind, test_of, with_part, with_redirects}
+use Rattle.tree_parts.specs.Parts.{adds, arith_of, assign, assignment_of, ended_by, formed, is_newline, item, joins, names_of, negated, opens_list, part_of_for, path_of, path_word, piped, plain_form, prefix_of, redirect_form, redirect_to, redirection, simple_param, subst_kind, test_of, with_part, with_redirects}
 use Rattle.tree_build.specs.Tables.{assigns, closes, ends_item, ends_part, is_assignment, is_silent_mark, is_special, is_word, opens_bracket, starts_word}
 use Rattle.tree_build.specs.Places.{place_of}
 use Rattle.tree_build.specs.Silent.{is_silent, opened}
@@ -101,10 +101,16 @@ are_breaks [] = true
 are_breaks (entry.Break ∷ es) = are_breaks es
 are_breaks _ = false
 
+-- an entry is such a word, or the word `typeset`
+abbrev pub IsWordOf : Entry → List ℕ → Type 0
+IsWordOf (entry.Word ps at) bytes = ps ≡ literal bytes false
+IsWordOf entry.Typeset bytes = bytes ≡ codes "typeset"
+IsWordOf _ bytes = ⊥
+
 -- behind the entries stand a word, which begins at a place, the name of a function, and newlines
 abbrev pub EndsWithFunction : List Entry → List Entry → ℕ → List (List ℕ) → Type 0
-EndsWithFunction all front from names = (word : List ℕ) × (name : List ℕ) × (at : ℕ) × (gap : List Entry)
-    × (all ≡ front ++ word_entry word from ∷ word_entry name at ∷ gap) × (are_breaks gap ≡ true) × (names ≡ names_of name)
+EndsWithFunction all front from names = (word : List ℕ) × (named : Entry) × (name : List ℕ) × (gap : List Entry)
+    × (all ≡ front ++ word_entry word from ∷ named ∷ gap) × IsWordOf named name × (are_breaks gap ≡ true) × (names ≡ names_of name)
 
 module _ (script : List ℕ) where
   pub data Reads : List Heard → List Heard → Frame → Type 0 where
@@ -118,7 +124,7 @@ module _ (script : List ℕ) where
     plain_expansion : {p q r : List Heard} (s : Sign) (b : List ℕ) (ps : List Piece) (quoted : Bool) (a : Asked) (of : ParamOf) → Reads p r (Text ps) → Reads r (Lexed s b ∷ q) (Parameter quoted a of) → s.kind ≡ kind.Close → Reads p q (Text (ps ++ expansion of (plain_form a) quoted ∷ []))
     formed_expansion : {p q r t : List Heard} (s : Sign) (b : List ℕ) (ps qs : List Piece) (quoted : Bool) (of : ParamOf) (form : Form) (first : Option (List Piece)) (made : ParamForm) → Reads p r (Text ps) → Reads r t (Formed quoted of form first) → Reads t (Lexed s b ∷ q) (Text qs) → s.kind ≡ kind.Close → formed form first qs ≡ Some made → Reads p q (Text (ps ++ expansion of made quoted ∷ []))
     substitution : {p q r t : List Heard} (s : Sign) (b : List ℕ) (ps : List Piece) (quoted : Bool) (sk : SubstKind) (is : List Item) → Reads p r (Text ps) → Reads r t (Substitution quoted sk) → Reads t (Lexed s b ∷ q) (Listed is) → closes sk s.kind ≡ true → Reads p q (Text (ps ++ piece.Subst is (subst_kind sk is) quoted ∷ []))
-    number : {p q r t : List Heard} (s : Sign) (b : List ℕ) (ps qs : List Piece) (quoted : Bool) (e : Arith) → Reads p r (Text ps) → Reads r t (Arithmetic quoted) → Reads t (Lexed s b ∷ q) (Text qs) → s.kind ≡ kind.Close → arith_of qs ≡ Some e → Reads p q (Text (ps ++ piece.Number e quoted ∷ []))
+    number : {p q r t : List Heard} (s : Sign) (b : List ℕ) (ps qs : List Piece) (quoted : Bool) (e : Arith) → Reads p r (Text ps) → Reads r t (Arithmetic quoted) → Reads t (Lexed s b ∷ q) (Text qs) → s.kind ≡ kind.Close → arith_of qs ≡ e → Reads p q (Text (ps ++ piece.Number e quoted ∷ []))
     -- what opens within a text
     opens_substitution : {q : List Heard} (s : Sign) (b : List ℕ) (sk : SubstKind) → opens_list s.kind ≡ Some sk → Reads (Lexed s b ∷ q) q (Substitution (quotes s.mode) sk)
     opens_arithmetic : {q : List Heard} (s : Sign) (b : List ℕ) → s.kind ≡ kind.OpenArithmetic → Reads (Lexed s b ∷ q) q (Arithmetic (quotes s.mode))
@@ -131,7 +137,7 @@ module _ (script : List ℕ) where
     member : {p q : List Heard} (s : Sign) (b : List ℕ) (at : ℕ) (quoted : Bool) (a : Asked) (path : TreePath) → Reads p (Lexed s b ∷ q) (Parameter quoted a (of.Var path)) → s.token ≡ token.Member at → Reads p q (Parameter quoted a (of.Var (with_part path (part.Member (from_place s at b)))))
     all_items : {p q : List Heard} (s : Sign) (b : List ℕ) (joined : Bool) (quoted : Bool) (a : Asked) (path : TreePath) → Reads p (Lexed s b ∷ q) (Parameter quoted a (of.Var path)) → s.token ≡ token.Items joined → Reads p q (Parameter quoted a (of.Var (with_part path (joined_or_each joined))))
     subscript : {p q r : List Heard} (s : Sign) (b : List ℕ) (ps : List Piece) (quoted : Bool) (a : Asked) (path : TreePath) → Reads p r (Parameter quoted a (of.Var path)) → Reads r (Lexed s b ∷ q) (Subscript ps) → s.kind ≡ kind.Close → Reads p q (Parameter quoted a (of.Var (with_part path (part.Sub ps))))
-    names_with_prefix : {p q : List Heard} (s : Sign) (b : List ℕ) (quoted : Bool) (name : List ℕ) → Reads p (Lexed s b ∷ q) (Parameter quoted asked.Target (of.Var (record { name = name; parts = [] }))) → s.kind ≡ kind.Prefix → Reads p q (Parameter quoted asked.Value (of.Prefix name))
+    names_with_prefix : {p q : List Heard} (s : Sign) (b : List ℕ) (quoted : Bool) (path : TreePath) → Reads p (Lexed s b ∷ q) (Parameter quoted asked.Target (of.Var path)) → s.kind ≡ kind.Prefix → Reads p q (Parameter quoted asked.Value (of.Prefix (prefix_of path)))
     with_form : {p q : List Heard} (s : Sign) (b : List ℕ) (quoted : Bool) (of : ParamOf) (form : Form) → Reads p (Lexed s b ∷ q) (Parameter quoted asked.Value of) → s.token ≡ token.Form form → Reads p q (Formed quoted of form None)
     with_first_text : {p q r : List Heard} (s : Sign) (b : List ℕ) (ps : List Piece) (quoted : Bool) (of : ParamOf) (form : Form) → Reads p r (Formed quoted of form None) → Reads r (Lexed s b ∷ q) (Text ps) → s.kind ≡ kind.Separator → Reads p q (Formed quoted of form (Some ps))
     -- subscripts
@@ -145,6 +151,8 @@ module _ (script : List ℕ) where
     element_word : {p q r : List Heard} (s : Sign) (b : List ℕ) (from : ℕ) (path : TreePath) (ps : List Piece) → Reads p r (Element from path) → Reads r (Lexed s b ∷ q) (Text ps) → s.kind ≡ kind.WordEnd → Reads p q (Whole (joined (path_word path) ps) from s.from false)
     -- assignments
     assignment_word : {p q : List Heard} (from to : ℕ) (ps : List Piece) (a : Assign) → Reads p q (Whole ps from to true) → assignment_of ps ≡ Some a → Reads p q (Assigned a)
+    -- a quote or an expansion stands before its `=`
+    assigns_nothing : {p q : List Heard} (from to : ℕ) (ps : List Piece) → Reads p q (Whole ps from to true) → assignment_of ps ≡ None → Reads p q (Whole ps from to false)
     element : {q : List Heard} (s : Sign) (b : List ℕ) → s.kind ≡ kind.Element → Reads (Lexed s b ∷ q) q (Target s.from (path_of b))
     element_member : {p q : List Heard} (s : Sign) (b : List ℕ) (at from : ℕ) (path : TreePath) → Reads p (Lexed s b ∷ q) (Target from path) → s.token ≡ token.Member at → Reads p q (Target from (with_part path (part.Member (from_place s at b))))
     element_subscript : {p q r : List Heard} (s : Sign) (b : List ℕ) (from : ℕ) (ps : List Piece) (path : TreePath) → Reads p r (Target from path) → Reads r (Lexed s b ∷ q) (Subscript ps) → s.kind ≡ kind.Close → Reads p q (Target from (with_part path (part.Sub ps)))
@@ -187,7 +195,7 @@ module _ (script : List ℕ) where
     compound : {p q : List Heard} (m : Moment) (line : ℕ) (c d : Command) (rs : List (Redirect (List Piece))) → Reads p (Marked mark.CompoundEnds m ∷ q) (Compound line c rs) → with_redirects c rs ≡ Some d → Reads p q (Finished line d)
     group : {p q r : List Heard} (s : Sign) (b : List ℕ) (line : ℕ) (is : List Item) → Reads p r (Group line) → Reads r (Lexed s b ∷ q) (Listed is) → s.kind ≡ kind.RightBrace → Reads p q (Compound line (command.Group is []) [])
     subshell : {p q r : List Heard} (s : Sign) (b : List ℕ) (line : ℕ) (is : List Item) → Reads p r (Subshell line) → Reads r (Lexed s b ∷ q) (Listed is) → s.kind ≡ kind.Close → Reads p q (Compound line (command.Subshell is []) [])
-    arithmetic_command : {p q r : List Heard} (s : Sign) (b : List ℕ) (line : ℕ) (ps : List Piece) (e : Arith) → Reads p r (ArithmeticCommand line) → Reads r (Lexed s b ∷ q) (Text ps) → s.kind ≡ kind.Close → arith_of ps ≡ Some e → Reads p q (Compound line (command.Arith e []) [])
+    arithmetic_command : {p q r : List Heard} (s : Sign) (b : List ℕ) (line : ℕ) (ps : List Piece) (e : Arith) → Reads p r (ArithmeticCommand line) → Reads r (Lexed s b ∷ q) (Text ps) → s.kind ≡ kind.Close → arith_of ps ≡ e → Reads p q (Compound line (command.Arith e []) [])
     condition_command : {p q r : List Heard} (s : Sign) (b : List ℕ) (line : ℕ) (alternatives : List (List Term)) (terms : List Term) (n : Bool) → Reads p r (ConditionCommand line) → Reads r (Lexed s b ∷ q) (Terms alternatives terms n) → s.kind ≡ kind.RightBrackets → Reads p q (Compound line (command.Cond (alternatives ++ terms ∷ []) []) [])
     arm_test : {p q r : List Heard} (s : Sign) (b : List ℕ) (line : ℕ) (arms : List (Arm (List Item))) (is : List Item) → Reads p r (If line arms) → Reads r (Lexed s b ∷ q) (Listed is) → s.kind ≡ kind.Then → Reads p q (Then line arms is)
     next_arm : {p q r : List Heard} (s : Sign) (b : List ℕ) (line : ℕ) (arms : List (Arm (List Item))) (condition is : List Item) → Reads p r (Then line arms condition) → Reads r (Lexed s b ∷ q) (Listed is) → s.kind ≡ kind.Elif → Reads p q (If line (arms ++ arm condition is ∷ []))
@@ -204,7 +212,7 @@ module _ (script : List ℕ) where
     for_words_do : {p q : List Heard} (s : Sign) (b : List ℕ) (line : ℕ) (n : Bool) (name : List ℕ) (ws : List (List Piece)) → Reads p (Lexed s b ∷ q) (ForReady line n name ws) → s.kind ≡ kind.Do → Reads p q (ForBody line n name (Some ws))
     for_ends : {p q r : List Heard} (s : Sign) (b : List ℕ) (line : ℕ) (n : Bool) (name : List ℕ) (ws : Option (List (List Piece))) (is : List Item) → Reads p r (ForBody line n name ws) → Reads r (Lexed s b ∷ q) (Listed is) → s.kind ≡ kind.Done → Reads p q (Compound line (repeated n name ws is) [])
     for_arithmetic : {p q : List Heard} (s : Sign) (b : List ℕ) (line : ℕ) → Reads p (Lexed s b ∷ q) (For line false) → s.kind ≡ kind.DoubleParenthesis → Reads p q (ForArithmetic line [])
-    for_part : {p q r : List Heard} (s : Sign) (b : List ℕ) (line : ℕ) (parts : List (Option Arith)) (part : Option Arith) (ps : List Piece) → Reads p r (ForArithmetic line parts) → Reads r (Lexed s b ∷ q) (Text ps) → ends_part s.kind ≡ true → part_of_for ps ≡ Some part → Reads p q (ForArithmetic line (parts ++ part ∷ []))
+    for_part : {p q r : List Heard} (s : Sign) (b : List ℕ) (line : ℕ) (parts : List (Option Arith)) (part : Option Arith) (ps : List Piece) → Reads p r (ForArithmetic line parts) → Reads r (Lexed s b ∷ q) (Text ps) → ends_part s.kind ≡ true → part_of_for ps ≡ part → Reads p q (ForArithmetic line (parts ++ part ∷ []))
     for_arithmetic_do : {p q : List Heard} (s : Sign) (b : List ℕ) (line : ℕ) (parts : List (Option Arith)) → Reads p (Lexed s b ∷ q) (ForArithmetic line parts) → s.kind ≡ kind.Do → Reads p q (ForArithmeticBody line parts)
     for_arithmetic_ends : {p q r : List Heard} (s : Sign) (b : List ℕ) (line : ℕ) (first condition step : Option Arith) (is : List Item) → Reads p r (ForArithmeticBody line (first ∷ condition ∷ step ∷ [])) → Reads r (Lexed s b ∷ q) (Listed is) → s.kind ≡ kind.Done → Reads p q (Compound line (command.ForArith first condition step is []) [])
     case_word : {p q r : List Heard} (line from to : ℕ) (n : Bool) (ps : List Piece) → Reads p r (Case line) → Reads r q (Whole ps from to n) → Reads p q (CaseWord line ps)

@@ -1,4 +1,7 @@
 //! Parts of which nothing was read, and simple commands.
+ghost use Rattle.std.specs.Prelude.{[], ◌∷◌};
+ghost use Rattle.tree_build.specs.Fits.{Moves};
+ghost use Rattle.tree_moves.specs.Tags as tag;
 ghost use Rattle.ksh_syntax.specs.declared.part.Mark.TheVariants.{AndOrBegins, PipelineBegins, SimpleBegins, SimpleEnds};
 ghost use Rattle.tree_build.specs.Frames.{Grows, Stays};
 ghost use Rattle.tree_build.specs.Heard.{Marked};
@@ -12,9 +15,10 @@ use std::alloc::Global;
 use tree_parts::Moment;
 
 /// A list of commands begins.
-#[tactic(auto, using(crate::proofs::Listing::reads_no_line, crate::proofs::Onto::lines_on))]
+#[tactic(auto, using(crate::proofs::Listing::reads_no_line, crate::proofs::MovingP::opens_lines, crate::proofs::Onto::lines_on))]
 pub fn open_list(frames: &mut Frames, alloc: Global) -> Result<(), Unbuilt>
-    ensures { Stays frames.old frames.new result }
+    ensures stays { Stays frames.old frames.new result }
+    ensures moves { Moves ([], tag.Lines ∷ []) frames.old frames.new result }
 {
     let ready = frames.lists.lines.push(Items::new(alloc));
     frames.opened.push_after(ready, Open::Lines)?;
@@ -22,9 +26,10 @@ pub fn open_list(frames: &mut Frames, alloc: Global) -> Result<(), Unbuilt>
 }
 
 /// Patterns begin.
-#[tactic(auto, using(crate::proofs::Compounding::reads_no_pattern, crate::proofs::Onto::patterns_on))]
+#[tactic(auto, using(crate::proofs::Compounding::reads_no_pattern, crate::proofs::MovingP::opens_patterns, crate::proofs::Onto::patterns_on))]
 pub fn open_patterns(frames: &mut Frames, alloc: Global) -> Result<(), Unbuilt>
-    ensures { Stays frames.old frames.new result }
+    ensures stays { Stays frames.old frames.new result }
+    ensures moves { Moves ([], tag.Patterns ∷ []) frames.old frames.new result }
 {
     let ready = frames.compounds.word_lists.push(Items::new(alloc));
     frames.opened.push_after(ready, Open::Patterns)?;
@@ -32,9 +37,10 @@ pub fn open_patterns(frames: &mut Frames, alloc: Global) -> Result<(), Unbuilt>
 }
 
 /// Terms begin.
-#[tactic(auto, using(crate::proofs::Testing::reads_no_term, crate::proofs::Onto::terms_on))]
+#[tactic(auto, using(crate::proofs::Testing::reads_no_term, crate::proofs::MovingP::opens_terms, crate::proofs::Onto::terms_on))]
 pub fn open_terms(frames: &mut Frames, alloc: Global) -> Result<(), Unbuilt>
-    ensures { Stays frames.old frames.new result }
+    ensures stays { Stays frames.old frames.new result }
+    ensures moves { Moves ([], tag.Terms ∷ []) frames.old frames.new result }
 {
     let ready = match frames.compounds.conditions.push(Items::new(alloc)) {
         Ok(()) => frames.compounds.terms.push(Items::new(alloc)),
@@ -45,9 +51,10 @@ pub fn open_terms(frames: &mut Frames, alloc: Global) -> Result<(), Unbuilt>
 }
 
 /// The words of a term begin.
-#[tactic(auto, using(crate::proofs::Testing::reads_no_operand, crate::proofs::Onto::operands_on))]
+#[tactic(auto, using(crate::proofs::Testing::reads_no_operand, crate::proofs::MovingP::opens_operands, crate::proofs::Onto::operands_on))]
 pub fn open_operands(frames: &mut Frames, alloc: Global) -> Result<(), Unbuilt>
-    ensures { Stays frames.old frames.new result }
+    ensures stays { Stays frames.old frames.new result }
+    ensures moves { Moves ([], tag.OperandsNone ∷ []) frames.old frames.new result }
 {
     let ready = frames.compounds.word_lists.push(Items::new(alloc));
     frames.opened.push_after(ready, Open::Operands)?;
@@ -55,9 +62,10 @@ pub fn open_operands(frames: &mut Frames, alloc: Global) -> Result<(), Unbuilt>
 }
 
 /// A simple command begins.
-#[tactic(auto, using(crate::proofs::Wording::reads_simple_begins, crate::proofs::Onto::simple_on))]
+#[tactic(auto, using(crate::proofs::Wording::reads_simple_begins, crate::proofs::MovingP::opens_simple, crate::proofs::Onto::simple_on))]
 pub fn begin_simple(frames: &mut Frames, alloc: Global, moment: Moment) -> Result<(), Unbuilt>
-    ensures { Grows (Marked SimpleBegins moment) frames.old frames.new result }
+    ensures grows { Grows (Marked SimpleBegins moment) frames.old frames.new result }
+    ensures moves { Moves ([], tag.SimpleEmpty ∷ []) frames.old frames.new result }
 {
     let Ok(()) = frames.simples.assigns.push(Items::new(alloc)) else {
         return Err(frames.opened.lost());
@@ -72,9 +80,10 @@ pub fn begin_simple(frames: &mut Frames, alloc: Global, moment: Moment) -> Resul
 }
 
 /// A simple command ends.
-#[tactic(auto, using(crate::proofs::Wording::reads_simple, crate::proofs::Onto::simple_on, crate::proofs::Onto::finished_on, crate::proofs::Onto::simple_loaded))]
+#[tactic(auto, using(crate::proofs::Wording::reads_simple, crate::proofs::MovingP::ends_simple, crate::proofs::Onto::simple_on, crate::proofs::Onto::finished_on, crate::proofs::Onto::simple_loaded))]
 pub fn end_simple(frames: &mut Frames, moment: Moment) -> Result<(), Unbuilt>
-    ensures { Grows (Marked SimpleEnds moment) frames.old frames.new result }
+    ensures grows { Grows (Marked SimpleEnds moment) frames.old frames.new result }
+    ensures moves { Moves (tag.Simple ∷ [], tag.Finished ∷ []) frames.old frames.new result }
 {
     let Some(Open::Simple(_, line)) = frames.opened.pop() else {
         return Err(frames.opened.stray());
@@ -99,9 +108,10 @@ pub fn end_simple(frames: &mut Frames, moment: Moment) -> Result<(), Unbuilt>
 }
 
 /// A pipeline begins.
-#[tactic(auto, using(crate::proofs::Listing::reads_pipeline_begins, crate::proofs::Onto::stages_on))]
+#[tactic(auto, using(crate::proofs::Listing::reads_pipeline_begins, crate::proofs::MovingP::opens_stages, crate::proofs::Onto::stages_on))]
 pub fn begin_pipeline(frames: &mut Frames, alloc: Global, moment: Moment) -> Result<(), Unbuilt>
-    ensures { Grows (Marked PipelineBegins moment) frames.old frames.new result }
+    ensures grows { Grows (Marked PipelineBegins moment) frames.old frames.new result }
+    ensures moves { Moves ([], tag.StagesFirst ∷ []) frames.old frames.new result }
 {
     let ready = frames.lists.stages.push(Items::new(alloc));
     let what = Open::Stages(moment.line, false);
@@ -110,9 +120,10 @@ pub fn begin_pipeline(frames: &mut Frames, alloc: Global, moment: Moment) -> Res
 }
 
 /// A list of pipelines begins.
-#[tactic(auto, using(crate::proofs::Listing::reads_chain_begins, crate::proofs::Onto::no_link_on))]
+#[tactic(auto, using(crate::proofs::Listing::reads_chain_begins, crate::proofs::MovingP::opens_no_link, crate::proofs::Onto::no_link_on))]
 pub fn begin_chain(frames: &mut Frames, moment: Moment) -> Result<(), Unbuilt>
-    ensures { Grows (Marked AndOrBegins moment) frames.old frames.new result }
+    ensures grows { Grows (Marked AndOrBegins moment) frames.old frames.new result }
+    ensures moves { Moves ([], tag.NoLink ∷ []) frames.old frames.new result }
 {
     let opening = Opening::NoLink;
     frames.opened.push_after(Ok(()), Open::Opened(opening))?;

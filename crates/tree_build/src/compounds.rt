@@ -1,10 +1,14 @@
 //! Compound commands: groups, `if` and loops with a test.
-ghost use Rattle.std.specs.Prelude.{◌≡◌, [], ◌∷◌, ◌++◌, IfSome, OnOk, Some};
+ghost use Rattle.tree_moves.specs.Tags.{Tag};
+ghost use Rattle.std.specs.Prelude.{◌≡◌, [], ◌∷◌, ◌++◌, MatchOption, None, OnOk, Some};
 ghost use Rattle.tree_build.specs.Frame.{Opened};
+ghost use Rattle.tree_build.specs.Fits.{Moves, opens};
 ghost use Rattle.tree_build.specs.Frames.{Grows};
 ghost use Rattle.tree_build.specs.Heard.{Lexed};
 ghost use Rattle.tree_build.specs.Reads.{arm};
 ghost use Rattle.tree_build.specs.Silent.{opened};
+ghost use Rattle.ksh_syntax.specs.declared.kind.Kind.TheVariants as kind;
+ghost use Rattle.tree_moves.specs.Tags as tag;
 
 use crate::begins::open_list;
 use crate::frames::Frames;
@@ -20,8 +24,9 @@ use std::alloc::Global;
 use tree_parts::{Sign, arith_of};
 
 /// What a token opens: a compound command other than `if`, or a function.
+#[tactic(auto, using(crate::proofs::MovingP::opens_nothing))]
 fn opening(sign: Sign) -> Option<Opening>
-    ensures { IfSome result (λ o. opened sign.kind sign.from sign.line ≡ Some (Opened o)) }
+    ensures { MatchOption result ((sign.kind ≡ kind.If → ⊥) → opens sign.kind ≡ None) (λ o. opened sign.kind sign.from sign.line ≡ Some (Opened o)) }
 {
     match sign.kind {
         Kind::LeftBrace => Some(Opening::Group(sign.line)),
@@ -40,7 +45,8 @@ fn opening(sign: Sign) -> Option<Opening>
 
 /// `if`
 fn open_if(frames: &mut Frames, alloc: Global, sign: Sign, bytes: &[u8]) -> Result<(), Unbuilt>
-    ensures { Grows (Lexed sign bytes.now) frames.old frames.new result }
+    ensures grows { Grows (Lexed sign bytes.now) frames.old frames.new result }
+    ensures moves { sign.kind ≡ kind.If → Moves ([], tag.If ∷ []) frames.old frames.new result }
 {
     if sign.kind != Kind::If {
         return Err(frames.opened.stray());
@@ -51,9 +57,10 @@ fn open_if(frames: &mut Frames, alloc: Global, sign: Sign, bytes: &[u8]) -> Resu
 }
 
 /// What opens another compound command or a function.
-#[tactic(auto, using(crate::proofs::Compounding::reads_opens))]
+#[tactic(auto, using(crate::proofs::Compounding::reads_opens, crate::proofs::MovingP::opens_other))]
 fn open_other(frames: &mut Frames, sign: Sign, bytes: &[u8]) -> Result<(), Unbuilt>
-    ensures { Grows (Lexed sign bytes.now) frames.old frames.new result }
+    ensures grows { Grows (Lexed sign bytes.now) frames.old frames.new result }
+    ensures moves { (t : Tag) → (sign.kind ≡ kind.If → ⊥) → opens sign.kind ≡ Some t → Moves ([], t ∷ []) frames.old frames.new result }
 {
     let Some(opening) = opening(sign) else {
         return Err(frames.opened.stray());
@@ -63,13 +70,15 @@ fn open_other(frames: &mut Frames, sign: Sign, bytes: &[u8]) -> Result<(), Unbui
 }
 
 /// What opens a compound command or a function.
+#[tactic(auto, using(crate::proofs::MovingP::if_opens))]
 pub fn open_compound(
     frames: &mut Frames,
     alloc: Global,
     sign: Sign,
     bytes: &[u8],
 ) -> Result<(), Unbuilt>
-    ensures { Grows (Lexed sign bytes.now) frames.old frames.new result }
+    ensures grows { Grows (Lexed sign bytes.now) frames.old frames.new result }
+    ensures moves { (t : Tag) → opens sign.kind ≡ Some t → Moves ([], t ∷ []) frames.old frames.new result }
 {
     match sign.kind {
         Kind::If => open_if(frames, alloc, sign, bytes),
@@ -85,7 +94,8 @@ pub fn begin_list_command(
     sign: Sign,
     bytes: &[u8],
 ) -> Result<(), Unbuilt>
-    ensures { Grows (Lexed sign bytes.now) frames.old frames.new result }
+    ensures grows { Grows (Lexed sign bytes.now) frames.old frames.new result }
+    ensures moves { (t : Tag) → opens sign.kind ≡ Some t → Moves ([], tag.Lines ∷ t ∷ []) frames.old frames.new result }
 {
     open_compound(frames, alloc, sign, bytes)?;
     open_list(frames, alloc)
@@ -99,7 +109,8 @@ pub fn begin_arithmetic_command(
     sign: Sign,
     bytes: &[u8],
 ) -> Result<(), Unbuilt>
-    ensures { Grows (Lexed sign bytes.now) frames.old frames.new result }
+    ensures grows { Grows (Lexed sign bytes.now) frames.old frames.new result }
+    ensures moves { sign.kind ≡ kind.DoubleParenthesis → Moves ([], tag.Text ∷ tag.ArithmeticCommand ∷ []) frames.old frames.new result }
 {
     open_compound(frames, alloc, sign, bytes)?;
     open_text(frames, alloc)
@@ -127,7 +138,8 @@ pub fn close_group(
     sign: Sign,
     bytes: &[u8],
 ) -> Result<(), Unbuilt>
-    ensures { Grows (Lexed sign bytes.now) frames.old frames.new result }
+    ensures grows { Grows (Lexed sign bytes.now) frames.old frames.new result }
+    ensures moves { sign.kind ≡ kind.RightBrace → Moves (tag.Listed ∷ tag.Group ∷ [], tag.Compound ∷ []) frames.old frames.new result }
 {
     if sign.kind != Kind::RightBrace {
         return Err(frames.opened.stray());
@@ -161,7 +173,8 @@ pub fn close_subshell(
     sign: Sign,
     bytes: &[u8],
 ) -> Result<(), Unbuilt>
-    ensures { Grows (Lexed sign bytes.now) frames.old frames.new result }
+    ensures grows { Grows (Lexed sign bytes.now) frames.old frames.new result }
+    ensures moves { sign.kind ≡ kind.Close → Moves (tag.Listed ∷ tag.Subshell ∷ [], tag.Compound ∷ []) frames.old frames.new result }
 {
     if sign.kind != Kind::Close {
         return Err(frames.opened.stray());
@@ -195,7 +208,8 @@ pub fn close_arithmetic_command(
     sign: Sign,
     bytes: &[u8],
 ) -> Result<(), Unbuilt>
-    ensures { Grows (Lexed sign bytes.now) frames.old frames.new result }
+    ensures grows { Grows (Lexed sign bytes.now) frames.old frames.new result }
+    ensures moves { sign.kind ≡ kind.Close → Moves (tag.Text ∷ tag.ArithmeticCommand ∷ [], tag.Compound ∷ []) frames.old frames.new result }
 {
     if sign.kind != Kind::Close {
         return Err(frames.opened.stray());
@@ -209,11 +223,8 @@ pub fn close_arithmetic_command(
     let Some(pieces) = frames.texts.words.pop() else {
         unreachable!();
     };
-    let Ok(read) = arith_of(alloc, pieces) else {
+    let Ok(text) = arith_of(alloc, pieces) else {
         return Err(frames.opened.lost());
-    };
-    let Some(text) = read else {
-        return Err(frames.opened.stray());
     };
     let redirects = Items::new(alloc);
     let arithmetic = Command::Arith { text, redirects };
@@ -229,7 +240,8 @@ pub fn close_arithmetic_command(
 
 #[tactic(auto, using(crate::proofs::Onto::listed_loaded, crate::proofs::Onto::if_loaded))]
 fn end_test(frames: &mut Frames, sign: Sign, bytes: &[u8]) -> Result<(), Unbuilt>
-    ensures { Grows (Lexed sign bytes.now) frames.old frames.new result }
+    ensures grows { Grows (Lexed sign bytes.now) frames.old frames.new result }
+    ensures moves { sign.kind ≡ kind.Then → Moves (tag.Listed ∷ tag.If ∷ [], tag.Then ∷ []) frames.old frames.new result }
 {
     if sign.kind != Kind::Then {
         return Err(frames.opened.stray());
@@ -247,7 +259,8 @@ fn end_test(frames: &mut Frames, sign: Sign, bytes: &[u8]) -> Result<(), Unbuilt
 /// `then`
 #[tactic(auto, using(crate::proofs::Steps::grows_stays))]
 pub fn then(frames: &mut Frames, alloc: Global, sign: Sign, bytes: &[u8]) -> Result<(), Unbuilt>
-    ensures { Grows (Lexed sign bytes.now) frames.old frames.new result }
+    ensures grows { Grows (Lexed sign bytes.now) frames.old frames.new result }
+    ensures moves { sign.kind ≡ kind.Then → Moves (tag.Listed ∷ tag.If ∷ [], tag.Lines ∷ tag.Then ∷ []) frames.old frames.new result }
 {
     end_test(frames, sign, bytes)?;
     open_list(frames, alloc)
@@ -263,7 +276,8 @@ fn add_arm(arms: &mut Items<Arm<List>>, test: List, body: List) -> Result<(), Me
 
 #[tactic(auto, using(crate::proofs::Onto::listed_loaded, crate::proofs::Onto::then_loaded))]
 fn end_arm(frames: &mut Frames, sign: Sign, bytes: &[u8]) -> Result<(), Unbuilt>
-    ensures { Grows (Lexed sign bytes.now) frames.old frames.new result }
+    ensures grows { Grows (Lexed sign bytes.now) frames.old frames.new result }
+    ensures moves { sign.kind ≡ kind.Elif → Moves (tag.Listed ∷ tag.Then ∷ [], tag.If ∷ []) frames.old frames.new result }
 {
     if sign.kind != Kind::Elif {
         return Err(frames.opened.stray());
@@ -288,7 +302,8 @@ fn end_arm(frames: &mut Frames, sign: Sign, bytes: &[u8]) -> Result<(), Unbuilt>
 /// `elif`
 #[tactic(auto, using(crate::proofs::Steps::grows_stays))]
 pub fn elif(frames: &mut Frames, alloc: Global, sign: Sign, bytes: &[u8]) -> Result<(), Unbuilt>
-    ensures { Grows (Lexed sign bytes.now) frames.old frames.new result }
+    ensures grows { Grows (Lexed sign bytes.now) frames.old frames.new result }
+    ensures moves { sign.kind ≡ kind.Elif → Moves (tag.Listed ∷ tag.Then ∷ [], tag.Lines ∷ tag.If ∷ []) frames.old frames.new result }
 {
     end_arm(frames, sign, bytes)?;
     open_list(frames, alloc)
@@ -296,7 +311,8 @@ pub fn elif(frames: &mut Frames, alloc: Global, sign: Sign, bytes: &[u8]) -> Res
 
 #[tactic(auto, using(crate::proofs::Onto::listed_loaded, crate::proofs::Onto::then_loaded))]
 fn end_last_arm(frames: &mut Frames, sign: Sign, bytes: &[u8]) -> Result<(), Unbuilt>
-    ensures { Grows (Lexed sign bytes.now) frames.old frames.new result }
+    ensures grows { Grows (Lexed sign bytes.now) frames.old frames.new result }
+    ensures moves { sign.kind ≡ kind.Else → Moves (tag.Listed ∷ tag.Then ∷ [], tag.Else ∷ []) frames.old frames.new result }
 {
     if sign.kind != Kind::Else {
         return Err(frames.opened.stray());
@@ -326,7 +342,8 @@ pub fn otherwise_list(
     sign: Sign,
     bytes: &[u8],
 ) -> Result<(), Unbuilt>
-    ensures { Grows (Lexed sign bytes.now) frames.old frames.new result }
+    ensures grows { Grows (Lexed sign bytes.now) frames.old frames.new result }
+    ensures moves { sign.kind ≡ kind.Else → Moves (tag.Listed ∷ tag.Then ∷ [], tag.Lines ∷ tag.Else ∷ []) frames.old frames.new result }
 {
     end_last_arm(frames, sign, bytes)?;
     open_list(frames, alloc)
@@ -335,7 +352,8 @@ pub fn otherwise_list(
 /// `fi` behind the list of an arm.
 #[tactic(auto, using(crate::proofs::Onto::listed_loaded, crate::proofs::Onto::then_loaded))]
 fn end_arms(frames: &mut Frames, alloc: Global, sign: Sign, bytes: &[u8]) -> Result<(), Unbuilt>
-    ensures { Grows (Lexed sign bytes.now) frames.old frames.new result }
+    ensures grows { Grows (Lexed sign bytes.now) frames.old frames.new result }
+    ensures moves { sign.kind ≡ kind.Fi → Moves (tag.Listed ∷ tag.Then ∷ [], tag.Compound ∷ []) frames.old frames.new result }
 {
     if sign.kind != Kind::Fi {
         return Err(frames.opened.stray());
@@ -376,7 +394,8 @@ fn end_arms(frames: &mut Frames, alloc: Global, sign: Sign, bytes: &[u8]) -> Res
 /// `fi` behind the list of `else`.
 #[tactic(auto, using(crate::proofs::Onto::listed_loaded, crate::proofs::Onto::else_loaded))]
 fn end_else(frames: &mut Frames, alloc: Global, sign: Sign, bytes: &[u8]) -> Result<(), Unbuilt>
-    ensures { Grows (Lexed sign bytes.now) frames.old frames.new result }
+    ensures grows { Grows (Lexed sign bytes.now) frames.old frames.new result }
+    ensures moves { sign.kind ≡ kind.Fi → Moves (tag.Listed ∷ tag.Else ∷ [], tag.Compound ∷ []) frames.old frames.new result }
 {
     if sign.kind != Kind::Fi {
         return Err(frames.opened.stray());
@@ -409,8 +428,11 @@ fn end_else(frames: &mut Frames, alloc: Global, sign: Sign, bytes: &[u8]) -> Res
 }
 
 /// `fi`
+#[tactic(auto, using(crate::proofs::MovingP::no_then, crate::proofs::MovingP::then_no_else))]
 pub fn fi(frames: &mut Frames, alloc: Global, sign: Sign, bytes: &[u8]) -> Result<(), Unbuilt>
-    ensures { Grows (Lexed sign bytes.now) frames.old frames.new result }
+    ensures grows { Grows (Lexed sign bytes.now) frames.old frames.new result }
+    ensures moves_then { sign.kind ≡ kind.Fi → Moves (tag.Listed ∷ tag.Then ∷ [], tag.Compound ∷ []) frames.old frames.new result }
+    ensures moves_else { sign.kind ≡ kind.Fi → Moves (tag.Listed ∷ tag.Else ∷ [], tag.Compound ∷ []) frames.old frames.new result }
 {
     match frames.at(1) {
         Place::Then => end_arms(frames, alloc, sign, bytes),
@@ -420,7 +442,8 @@ pub fn fi(frames: &mut Frames, alloc: Global, sign: Sign, bytes: &[u8]) -> Resul
 
 #[tactic(auto, using(crate::proofs::Onto::listed_loaded, crate::proofs::Onto::loop_loaded))]
 fn end_loop_test(frames: &mut Frames, sign: Sign, bytes: &[u8]) -> Result<(), Unbuilt>
-    ensures { Grows (Lexed sign bytes.now) frames.old frames.new result }
+    ensures grows { Grows (Lexed sign bytes.now) frames.old frames.new result }
+    ensures moves { sign.kind ≡ kind.Do → Moves (tag.Listed ∷ tag.Loop ∷ [], tag.LoopBody ∷ []) frames.old frames.new result }
 {
     if sign.kind != Kind::Do {
         return Err(frames.opened.stray());
@@ -440,7 +463,8 @@ fn end_loop_test(frames: &mut Frames, sign: Sign, bytes: &[u8]) -> Result<(), Un
 /// The `do` of `while` or `until`.
 #[tactic(auto, using(crate::proofs::Steps::grows_stays))]
 pub fn do_loop(frames: &mut Frames, alloc: Global, sign: Sign, bytes: &[u8]) -> Result<(), Unbuilt>
-    ensures { Grows (Lexed sign bytes.now) frames.old frames.new result }
+    ensures grows { Grows (Lexed sign bytes.now) frames.old frames.new result }
+    ensures moves { sign.kind ≡ kind.Do → Moves (tag.Listed ∷ tag.Loop ∷ [], tag.Lines ∷ tag.LoopBody ∷ []) frames.old frames.new result }
 {
     end_loop_test(frames, sign, bytes)?;
     open_list(frames, alloc)
@@ -449,7 +473,8 @@ pub fn do_loop(frames: &mut Frames, alloc: Global, sign: Sign, bytes: &[u8]) -> 
 /// The `done` of `while` or `until`.
 #[tactic(auto, using(crate::proofs::Onto::listed_loaded, crate::proofs::Onto::loop_body_loaded))]
 pub fn end_loop(frames: &mut Frames, alloc: Global, sign: Sign, bytes: &[u8]) -> Result<(), Unbuilt>
-    ensures { Grows (Lexed sign bytes.now) frames.old frames.new result }
+    ensures grows { Grows (Lexed sign bytes.now) frames.old frames.new result }
+    ensures moves { sign.kind ≡ kind.Done → Moves (tag.Listed ∷ tag.LoopBody ∷ [], tag.Compound ∷ []) frames.old frames.new result }
 {
     if sign.kind != Kind::Done {
         return Err(frames.opened.stray());

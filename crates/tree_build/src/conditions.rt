@@ -1,4 +1,8 @@
 //! Conditions.
+ghost use Rattle.ksh_syntax.specs.declared.kind.Kind.TheVariants as kind;
+ghost use Rattle.std.specs.Prelude.{[], ◌∷◌, ◌≡◌};
+ghost use Rattle.tree_build.specs.Fits.{Moves};
+ghost use Rattle.tree_moves.specs.Tags as tag;
 ghost use Rattle.ksh_syntax.specs.declared.part.Mark.TheVariants.{TermEnds};
 ghost use Rattle.tree_build.specs.Frames.{Grows, Stays};
 ghost use Rattle.tree_build.specs.Heard.{Lexed, Marked};
@@ -23,16 +27,18 @@ pub fn begin_condition(
     sign: Sign,
     bytes: &[u8],
 ) -> Result<(), Unbuilt>
-    ensures { Grows (Lexed sign bytes.now) frames.old frames.new result }
+    ensures grows { Grows (Lexed sign bytes.now) frames.old frames.new result }
+    ensures moves { sign.kind ≡ kind.LeftBrackets → Moves ([], tag.Terms ∷ tag.ConditionCommand ∷ []) frames.old frames.new result }
 {
     open_compound(frames, alloc, sign, bytes)?;
     open_terms(frames, alloc)
 }
 
 /// A `!` before a term.
-#[tactic(auto, using(crate::proofs::Testing::reads_not_term, crate::proofs::Onto::terms_on, crate::proofs::Onto::terms_loaded))]
+#[tactic(auto, using(crate::proofs::Testing::reads_not_term, crate::proofs::Onto::terms_on, crate::proofs::Onto::terms_loaded, crate::proofs::MovingP::turns_terms))]
 pub fn not_term(frames: &mut Frames, sign: Sign, bytes: &[u8]) -> Result<(), Unbuilt>
-    ensures { Grows (Lexed sign bytes.now) frames.old frames.new result }
+    ensures grows { Grows (Lexed sign bytes.now) frames.old frames.new result }
+    ensures moves { sign.kind ≡ kind.Bang → Moves (tag.Terms ∷ [], tag.Terms ∷ []) frames.old frames.new result }
 {
     if sign.kind != Kind::Bang {
         return Err(frames.opened.stray());
@@ -44,9 +50,10 @@ pub fn not_term(frames: &mut Frames, sign: Sign, bytes: &[u8]) -> Result<(), Unb
     Ok(())
 }
 
-#[tactic(auto, using(crate::proofs::Testing::reads_tested, crate::proofs::Onto::operands_on, crate::proofs::Onto::tested_on, crate::proofs::Onto::operands_loaded))]
+#[tactic(auto, using(crate::proofs::Testing::reads_tested, crate::proofs::Onto::operands_on, crate::proofs::Onto::tested_on, crate::proofs::Onto::operands_loaded, crate::proofs::MovingP::closes_operands))]
 fn close_operands(frames: &mut Frames) -> Result<(), Unbuilt>
-    ensures { Stays frames.old frames.new result }
+    ensures stays { Stays frames.old frames.new result }
+    ensures moves { Moves (tag.Operands ∷ [], tag.Tested ∷ []) frames.old frames.new result }
 {
     let Some(Open::Operands) = frames.opened.pop() else {
         return Err(frames.opened.stray());
@@ -62,9 +69,10 @@ fn close_operands(frames: &mut Frames) -> Result<(), Unbuilt>
     Ok(())
 }
 
-#[tactic(auto, using(crate::proofs::Testing::reads_opens_nested, crate::proofs::Onto::nested_on))]
+#[tactic(auto, using(crate::proofs::Testing::reads_opens_nested, crate::proofs::Onto::nested_on, crate::proofs::MovingP::opens_nested))]
 fn open_parenthesis(frames: &mut Frames, sign: Sign, bytes: &[u8]) -> Result<(), Unbuilt>
-    ensures { Grows (Lexed sign bytes.now) frames.old frames.new result }
+    ensures grows { Grows (Lexed sign bytes.now) frames.old frames.new result }
+    ensures moves { sign.kind ≡ kind.Open → Moves ([], tag.Nested ∷ []) frames.old frames.new result }
 {
     if sign.kind != Kind::Open {
         return Err(frames.opened.stray());
@@ -83,7 +91,8 @@ pub fn begin_nested(
     sign: Sign,
     bytes: &[u8],
 ) -> Result<(), Unbuilt>
-    ensures { Grows (Lexed sign bytes.now) frames.old frames.new result }
+    ensures grows { Grows (Lexed sign bytes.now) frames.old frames.new result }
+    ensures moves { sign.kind ≡ kind.Open → Moves ([], tag.Terms ∷ tag.Nested ∷ []) frames.old frames.new result }
 {
     open_parenthesis(frames, sign, bytes)?;
     open_terms(frames, alloc)
@@ -92,7 +101,8 @@ pub fn begin_nested(
 /// A `)` in a condition.
 #[tactic(auto, using(crate::proofs::Onto::terms_loaded, crate::proofs::Onto::nested_loaded))]
 pub fn close_nested(frames: &mut Frames, sign: Sign, bytes: &[u8]) -> Result<(), Unbuilt>
-    ensures { Grows (Lexed sign bytes.now) frames.old frames.new result }
+    ensures grows { Grows (Lexed sign bytes.now) frames.old frames.new result }
+    ensures moves { sign.kind ≡ kind.Close → Moves (tag.Terms ∷ tag.Nested ∷ [], tag.Tested ∷ []) frames.old frames.new result }
 {
     if sign.kind != Kind::Close {
         return Err(frames.opened.stray());
@@ -119,7 +129,8 @@ pub fn close_nested(frames: &mut Frames, sign: Sign, bytes: &[u8]) -> Result<(),
 
 #[tactic(auto, using(crate::proofs::Onto::tested_loaded, crate::proofs::Onto::terms_loaded))]
 fn close_term(frames: &mut Frames, moment: Moment) -> Result<(), Unbuilt>
-    ensures { Grows (Marked TermEnds moment) frames.old frames.new result }
+    ensures grows { Grows (Marked TermEnds moment) frames.old frames.new result }
+    ensures moves { Moves (tag.Tested ∷ tag.Terms ∷ [], tag.Terms ∷ []) frames.old frames.new result }
 {
     let Some(Open::Tested) = frames.opened.pop() else {
         return Err(frames.opened.stray());
@@ -136,9 +147,11 @@ fn close_term(frames: &mut Frames, moment: Moment) -> Result<(), Unbuilt>
 }
 
 /// Makes a test of the words of a term, where those stand there.
-#[tactic(auto, using(crate::proofs::Steps::nothing_stays))]
+#[tactic(auto, using(crate::proofs::Steps::nothing_stays, crate::proofs::MovingP::operands_no_tested, crate::proofs::MovingP::no_operands, crate::proofs::MovingP::tested_stays))]
 fn finish_operands(frames: &mut Frames) -> Result<(), Unbuilt>
-    ensures { Stays frames.old frames.new result }
+    ensures stays { Stays frames.old frames.new result }
+    ensures moves_operands { Moves (tag.Operands ∷ [], tag.Tested ∷ []) frames.old frames.new result }
+    ensures moves_tested { Moves (tag.Tested ∷ [], tag.Tested ∷ []) frames.old frames.new result }
 {
     match frames.at(0) {
         Place::Operands => close_operands(frames),
@@ -149,21 +162,24 @@ fn finish_operands(frames: &mut Frames) -> Result<(), Unbuilt>
 /// A term of a condition ends.
 #[tactic(auto, using(crate::proofs::Steps::stays_grows))]
 pub fn end_term(frames: &mut Frames, moment: Moment) -> Result<(), Unbuilt>
-    ensures { Grows (Marked TermEnds moment) frames.old frames.new result }
+    ensures grows { Grows (Marked TermEnds moment) frames.old frames.new result }
+    ensures moves_operands { Moves (tag.Operands ∷ tag.Terms ∷ [], tag.Terms ∷ []) frames.old frames.new result }
+    ensures moves_tested { Moves (tag.Tested ∷ tag.Terms ∷ [], tag.Terms ∷ []) frames.old frames.new result }
 {
     finish_operands(frames)?;
     close_term(frames, moment)
 }
 
 /// `||` in a condition.
-#[tactic(auto, using(crate::proofs::Testing::reads_alternative, crate::proofs::Onto::terms_on, crate::proofs::Onto::terms_loaded))]
+#[tactic(auto, using(crate::proofs::Testing::reads_alternative, crate::proofs::Onto::terms_on, crate::proofs::Onto::terms_loaded, crate::proofs::MovingP::turns_terms))]
 pub fn alternative(
     frames: &mut Frames,
     alloc: Global,
     sign: Sign,
     bytes: &[u8],
 ) -> Result<(), Unbuilt>
-    ensures { Grows (Lexed sign bytes.now) frames.old frames.new result }
+    ensures grows { Grows (Lexed sign bytes.now) frames.old frames.new result }
+    ensures moves { sign.kind ≡ kind.OrIf → Moves (tag.Terms ∷ [], tag.Terms ∷ []) frames.old frames.new result }
 {
     if sign.kind != Kind::OrIf {
         return Err(frames.opened.stray());
@@ -190,7 +206,8 @@ pub fn close_condition(
     sign: Sign,
     bytes: &[u8],
 ) -> Result<(), Unbuilt>
-    ensures { Grows (Lexed sign bytes.now) frames.old frames.new result }
+    ensures grows { Grows (Lexed sign bytes.now) frames.old frames.new result }
+    ensures moves { sign.kind ≡ kind.RightBrackets → Moves (tag.Terms ∷ tag.ConditionCommand ∷ [], tag.Compound ∷ []) frames.old frames.new result }
 {
     if sign.kind != Kind::RightBrackets {
         return Err(frames.opened.stray());

@@ -1,6 +1,9 @@
 //! The frames of a builder of trees.
-ghost use Rattle.std.specs.Prelude.{◌≡◌, [], ◌∷◌, IfOk};
+ghost use Rattle.std.specs.Prelude.{◌≡◌, [], ◌∷◌, Err, IfOk};
+ghost use Rattle.tree_build.specs.Fits.{Fits};
 ghost use Rattle.tree_build.specs.Frame.{Listed};
+ghost use Rattle.tree_build.specs.declared.unbuilt.Unbuilt.TheVariants as unbuilt;
+ghost use Rattle.tree_moves.specs.Tags as tag;
 
 use crate::opening::Open;
 use crate::stack::Stack;
@@ -165,7 +168,8 @@ impl Frames {
     /// The list of a whole script.
     #[tactic(auto, using(crate::proofs::Onto::listed_on, crate::proofs::Onto::listed_loaded))]
     pub fn finish(&mut self) -> Result<List, Unbuilt>
-        ensures { IfOk result (λ is. self.old ≡ Listed is ∷ []) }
+        ensures listed { IfOk result (λ is. self.old ≡ Listed is ∷ []) }
+        ensures moves { Fits (tag.Listed ∷ []) self.old → result ≡ Err unbuilt.Stray → ⊥ }
     {
         let Some(Open::Listed) = self.opened.pop() else {
             return Err(self.opened.stray());

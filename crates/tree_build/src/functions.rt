@@ -1,12 +1,19 @@
 //! Functions, and the entries of values.
+ghost use Rattle.ksh_syntax.specs.declared.kind.Kind.TheVariants as kind;
+ghost use Rattle.tree_build.specs.Fits.{Is, IsNames, Moves};
+ghost use Rattle.tree_build.specs.Frame.{Value};
+ghost use Rattle.tree_parts.specs.declared.entry.Entry.TheVariants as entry;
+ghost use Rattle.ksh_ast.specs.declared.tree.Piece.{Piece};
+ghost use Rattle.tree_build.specs.Tables.{is_word};
+ghost use Rattle.tree_moves.specs.Tags as tag;
 ghost use Rattle.ksh_syntax.specs.declared.part.Mark.TheVariants.{CompoundEnds, MemberBody, SimpleBegins, SimpleEnds};
 ghost use Rattle.tree_build.specs.Frames.{Grows, GrowsIn, Stays, StaysIn};
 ghost use Rattle.tree_build.specs.Heard.{Lexed, Marked};
-ghost use Rattle.tree_build.specs.Reads.{EndsWithFunction, definition, slice};
-ghost use Rattle.std.specs.Prelude.{◌≡◌, true, false, [], ◌∷◌, ◌++◌, IfOk, IfSome, OnOk};
+ghost use Rattle.tree_build.specs.Reads.{EndsWithFunction, IsWordOf, are_breaks, definition, slice, breaks};
+ghost use Rattle.std.specs.Prelude.{◌≡◌, ℕ, true, false, List, [], ◌∷◌, ◌++◌, None, Some, IfOk, IfSome, OnOk};
 ghost use Rattle.tree_build.specs.Names.{IsOneWord, StandsBehind};
 ghost use Rattle.tree_parts.specs.Literals.{literal};
-ghost use Rattle.tree_parts.specs.Parts.{item, with_redirects};
+ghost use Rattle.tree_parts.specs.Parts.{item, with_redirects, all_names, names_of};
 ghost use Rattle.tree_build.specs.Loads.{IsThere, below, top};
 ghost use Rattle.ksh_ast.specs.declared.tree.Command.TheVariants as command;
 
@@ -32,7 +39,8 @@ pub fn function_name(
     sign: Sign,
     bytes: &[u8],
 ) -> Result<(), Unbuilt>
-    ensures { Grows (Lexed sign bytes.now) frames.old frames.new result }
+    ensures grows { Grows (Lexed sign bytes.now) frames.old frames.new result }
+    ensures moves { is_word sign.kind ≡ true → all_names (names_of bytes.now) ≡ true → Moves (tag.Function ∷ [], tag.FunctionName ∷ []) frames.old frames.new result }
 {
     if !is_word(sign.kind) {
         return Err(frames.opened.stray());
@@ -53,14 +61,15 @@ pub fn function_name(
 }
 
 /// The `(` behind the name of a function.
-#[tactic(auto, using(crate::proofs::Onto::simple_loaded))]
+#[tactic(auto, using(crate::proofs::Onto::simple_loaded, crate::proofs::Onto::simple_on, crate::proofs::MovingR::never_simple_name))]
 pub fn name_function(
     frames: &mut Frames,
     alloc: Global,
     sign: Sign,
     bytes: &[u8],
 ) -> Result<(), Unbuilt>
-    ensures { Grows (Lexed sign bytes.now) frames.old frames.new result }
+    ensures grows { Grows (Lexed sign bytes.now) frames.old frames.new result }
+    ensures moves { sign.kind ≡ kind.Open → Moves (tag.SimpleName ∷ [], tag.FunctionName ∷ []) frames.old frames.new result }
 {
     if sign.kind != Kind::Open {
         return Err(frames.opened.stray());
@@ -96,14 +105,15 @@ pub fn name_function(
 }
 
 /// The `(` behind the name of a function among members.
-#[tactic(auto, using(crate::proofs::Onto::whole_loaded))]
+#[tactic(auto, using(crate::proofs::Onto::whole_loaded, crate::proofs::Onto::whole_on, crate::proofs::MovingR::never_whole_name, crate::proofs::MovingR::not_names))]
 pub fn name_member(
     frames: &mut Frames,
     alloc: Global,
     sign: Sign,
     bytes: &[u8],
 ) -> Result<(), Unbuilt>
-    ensures { Grows (Lexed sign bytes.now) frames.old frames.new result }
+    ensures grows { Grows (Lexed sign bytes.now) frames.old frames.new result }
+    ensures moves { sign.kind ≡ kind.Open → Moves (tag.WholeName ∷ [], tag.FunctionName ∷ []) frames.old frames.new result }
 {
     if sign.kind != Kind::Open {
         return Err(frames.opened.stray());
@@ -163,6 +173,7 @@ fn end_body(
 ) -> Option<Command>
     requires { IsThere commands.old × IsThere redirects.old }
     ensures command { IfSome result (λ c. with_redirects (top (command.Simple [] [] []) commands.old) (top [] redirects.old) ≡ Some c) }
+    ensures none { result ≡ None → with_redirects (top (command.Simple [] [] []) commands.old) (top [] redirects.old) ≡ None }
     ensures rest { (commands.new ≡ below commands.old) × (redirects.new ≡ below redirects.old) }
 {
     let Some(command) = commands.pop() else {
@@ -181,7 +192,8 @@ fn close_function(
     script: &[u8],
     moment: Moment,
 ) -> Result<(), Unbuilt>
-    ensures { GrowsIn script.now (Marked CompoundEnds moment) frames.old frames.new result }
+    ensures grows { GrowsIn script.now (Marked CompoundEnds moment) frames.old frames.new result }
+    ensures moves { Moves (tag.Compound ∷ tag.FunctionName ∷ [], tag.Defined ∷ []) frames.old frames.new result }
 {
     let Some(Open::Compound(own)) = frames.opened.pop() else {
         return Err(frames.opened.stray());
@@ -210,9 +222,10 @@ fn close_function(
 }
 
 /// Makes a command of a function.
-#[tactic(auto, using(crate::proofs::Defining::reads_defines, crate::proofs::Onto::defined_on, crate::proofs::Onto::finished_on, crate::proofs::Onto::defined_loaded))]
+#[tactic(auto, using(crate::proofs::Defining::reads_defines, crate::proofs::Onto::defined_on, crate::proofs::Onto::finished_on, crate::proofs::Onto::defined_loaded, crate::proofs::MovingR::moves_defines))]
 fn define(frames: &mut Frames) -> Result<(), Unbuilt>
-    ensures { Stays frames.old frames.new result }
+    ensures stays { Stays frames.old frames.new result }
+    ensures moves { Moves (tag.Defined ∷ [], tag.Finished ∷ []) frames.old frames.new result }
 {
     let Some(Open::Defined(line)) = frames.opened.pop() else {
         return Err(frames.opened.stray());
@@ -228,7 +241,8 @@ fn define(frames: &mut Frames) -> Result<(), Unbuilt>
 /// Gives a function to the value of which it is a member.
 #[tactic(auto, using(crate::proofs::Onto::defined_loaded, crate::proofs::Onto::value_loaded))]
 fn give_member(frames: &mut Frames) -> Result<(), Unbuilt>
-    ensures { Stays frames.old frames.new result }
+    ensures stays { Stays frames.old frames.new result }
+    ensures moves { Moves (tag.Defined ∷ tag.Value ∷ [], tag.Value ∷ []) frames.old frames.new result }
 {
     let Some(Open::Defined(_)) = frames.opened.pop() else {
         return Err(frames.opened.stray());
@@ -245,8 +259,11 @@ fn give_member(frames: &mut Frames) -> Result<(), Unbuilt>
 }
 
 /// Gives a function to the value of which it is a member, or makes a command of it.
+#[tactic(auto, using(crate::proofs::MovingR::stages_not_value))]
 fn give_function(frames: &mut Frames) -> Result<(), Unbuilt>
-    ensures { Stays frames.old frames.new result }
+    ensures stays { Stays frames.old frames.new result }
+    ensures moves_command { Moves (tag.Defined ∷ tag.Stages ∷ [], tag.Finished ∷ tag.Stages ∷ []) frames.old frames.new result }
+    ensures moves_member { Moves (tag.Defined ∷ tag.Value ∷ [], tag.Value ∷ []) frames.old frames.new result }
 {
     match frames.at(1) {
         Place::Value => give_member(frames),
@@ -254,14 +271,16 @@ fn give_function(frames: &mut Frames) -> Result<(), Unbuilt>
     }
 }
 
-#[tactic(auto, using(crate::proofs::Steps::grows_in_stays))]
+#[tactic(auto, using(crate::proofs::Steps::grows_in_stays, crate::proofs::MovingR::two_fail))]
 fn end_function(
     frames: &mut Frames,
     alloc: Global,
     script: &[u8],
     moment: Moment,
 ) -> Result<(), Unbuilt>
-    ensures { GrowsIn script.now (Marked CompoundEnds moment) frames.old frames.new result }
+    ensures grows { GrowsIn script.now (Marked CompoundEnds moment) frames.old frames.new result }
+    ensures moves_function { Moves (tag.Compound ∷ tag.FunctionName ∷ tag.Stages ∷ [], tag.Finished ∷ tag.Stages ∷ []) frames.old frames.new result }
+    ensures moves_member { Moves (tag.Compound ∷ tag.FunctionName ∷ tag.Value ∷ [], tag.Value ∷ []) frames.old frames.new result }
 {
     close_function(frames, alloc, script, moment)?;
     give_function(frames)
@@ -269,7 +288,8 @@ fn end_function(
 
 #[tactic(auto, using(crate::proofs::Onto::compound_loaded))]
 fn close_compound(frames: &mut Frames, moment: Moment) -> Result<(), Unbuilt>
-    ensures { Grows (Marked CompoundEnds moment) frames.old frames.new result }
+    ensures grows { Grows (Marked CompoundEnds moment) frames.old frames.new result }
+    ensures moves { Moves (tag.Compound ∷ [], tag.Finished ∷ []) frames.old frames.new result }
 {
     let Some(Open::Compound(line)) = frames.opened.pop() else {
         return Err(frames.opened.stray());
@@ -286,9 +306,10 @@ fn close_compound(frames: &mut Frames, moment: Moment) -> Result<(), Unbuilt>
 }
 
 /// The `{` of a function comes among members.
-#[tactic(auto, using(crate::proofs::Defining::reads_member_body, crate::proofs::Onto::member_body_on))]
+#[tactic(auto, using(crate::proofs::Defining::reads_member_body, crate::proofs::Onto::member_body_on, crate::proofs::MovingR::moves_member_body))]
 pub fn begin_member_body(frames: &mut Frames, moment: Moment) -> Result<(), Unbuilt>
-    ensures { Grows (Marked MemberBody moment) frames.old frames.new result }
+    ensures grows { Grows (Marked MemberBody moment) frames.old frames.new result }
+    ensures moves { Moves ([], tag.MemberBody ∷ []) frames.old frames.new result }
 {
     frames
         .opened
@@ -298,7 +319,8 @@ pub fn begin_member_body(frames: &mut Frames, moment: Moment) -> Result<(), Unbu
 
 #[tactic(auto, using(crate::proofs::Onto::member_body_loaded))]
 fn open_member_body(frames: &mut Frames, sign: Sign, bytes: &[u8]) -> Result<(), Unbuilt>
-    ensures { Grows (Lexed sign bytes.now) frames.old frames.new result }
+    ensures grows { Grows (Lexed sign bytes.now) frames.old frames.new result }
+    ensures moves { sign.kind ≡ kind.LeftBrace → Moves (tag.MemberBody ∷ [], tag.Group ∷ []) frames.old frames.new result }
 {
     if sign.kind != Kind::LeftBrace {
         return Err(frames.opened.stray());
@@ -313,20 +335,22 @@ fn open_member_body(frames: &mut Frames, sign: Sign, bytes: &[u8]) -> Result<(),
 }
 
 /// That `{`.
-#[tactic(auto, using(crate::proofs::Steps::grows_stays))]
+#[tactic(auto, using(crate::proofs::Steps::grows_stays, crate::proofs::MovingR::fails_as))]
 pub fn begin_member_group(
     frames: &mut Frames,
     alloc: Global,
     sign: Sign,
     bytes: &[u8],
 ) -> Result<(), Unbuilt>
-    ensures { Grows (Lexed sign bytes.now) frames.old frames.new result }
+    ensures grows { Grows (Lexed sign bytes.now) frames.old frames.new result }
+    ensures moves { sign.kind ≡ kind.LeftBrace → Moves (tag.MemberBody ∷ [], tag.Lines ∷ tag.Group ∷ []) frames.old frames.new result }
 {
     open_member_body(frames, sign, bytes)?;
     open_list(frames, alloc)
 }
 
 /// Takes `function`, a name and newlines from behind the entries on top: the first's place, the name, and the function's text.
+#[tactic(auto, using(crate::proofs::Names::named_on_top))]
 fn end_named(
     entries: &mut Stack<Items<Entry>>,
     alloc: Global,
@@ -335,6 +359,7 @@ fn end_named(
 ) -> Result<Option<(usize, Items<Name>, Text)>, Memory>
     requires { IsThere entries.old }
     ensures named { IfOk result (λ o. IfSome o (λ f. EndsWithFunction (top [] entries.old) (top [] entries.new) f.0 f.1 × (f.2 ≡ slice script.now f.0 moment.to))) }
+    ensures none { IfOk result (λ o. o ≡ None → Is tag.ValueBroken (Value (top [] entries.old)) → ⊥) }
     ensures rest { OnOk result ((below entries.new ≡ below entries.old) × IsThere entries.new) }
 {
     let Some(mut all) = entries.pop() else {
@@ -345,14 +370,15 @@ fn end_named(
     Ok(named)
 }
 
-#[tactic(auto, using(crate::proofs::Onto::compound_loaded, crate::proofs::Onto::value_loaded))]
+#[tactic(auto, using(crate::proofs::Onto::compound_loaded, crate::proofs::Onto::value_loaded, crate::proofs::Onto::compound_on, crate::proofs::Onto::value_on, crate::proofs::MovingR::never_named, crate::proofs::MovingR::never_compound))]
 fn close_named_member(
     frames: &mut Frames,
     alloc: Global,
     script: &[u8],
     moment: Moment,
 ) -> Result<(), Unbuilt>
-    ensures { GrowsIn script.now (Marked CompoundEnds moment) frames.old frames.new result }
+    ensures grows { GrowsIn script.now (Marked CompoundEnds moment) frames.old frames.new result }
+    ensures moves { Moves (tag.Compound ∷ tag.ValueBroken ∷ [], tag.Value ∷ []) frames.old frames.new result }
 {
     let Some(Open::Compound(own)) = frames.opened.pop() else {
         return Err(frames.opened.stray());
@@ -381,14 +407,18 @@ fn close_named_member(
 }
 
 /// A compound command and the redirections behind it end.
-#[tactic(auto, using(crate::proofs::Steps::grows_in))]
+#[tactic(auto, using(crate::proofs::Steps::grows_in, crate::proofs::MovingR::stages_not_value, crate::proofs::MovingR::function_not_value, crate::proofs::MovingR::stages_not_function, crate::proofs::MovingR::broken_not_function))]
 pub fn end_compound(
     frames: &mut Frames,
     alloc: Global,
     script: &[u8],
     moment: Moment,
 ) -> Result<(), Unbuilt>
-    ensures { GrowsIn script.now (Marked CompoundEnds moment) frames.old frames.new result }
+    ensures grows { GrowsIn script.now (Marked CompoundEnds moment) frames.old frames.new result }
+    ensures moves_command { Moves (tag.Compound ∷ tag.Stages ∷ [], tag.Finished ∷ tag.Stages ∷ []) frames.old frames.new result }
+    ensures moves_function { Moves (tag.Compound ∷ tag.FunctionName ∷ tag.Stages ∷ [], tag.Finished ∷ tag.Stages ∷ []) frames.old frames.new result }
+    ensures moves_member { Moves (tag.Compound ∷ tag.FunctionName ∷ tag.Value ∷ [], tag.Value ∷ []) frames.old frames.new result }
+    ensures moves_named { Moves (tag.Compound ∷ tag.ValueBroken ∷ [], tag.Value ∷ []) frames.old frames.new result }
 {
     match frames.at(1) {
         Place::FunctionName => end_function(frames, alloc, script, moment),
@@ -400,7 +430,9 @@ pub fn end_compound(
 /// The word `typeset` among entries.
 #[tactic(auto, using(crate::proofs::Onto::value_loaded))]
 pub fn typeset(frames: &mut Frames, sign: Sign, bytes: &[u8]) -> Result<(), Unbuilt>
-    ensures { Grows (Lexed sign bytes.now) frames.old frames.new result }
+    ensures grows { Grows (Lexed sign bytes.now) frames.old frames.new result }
+    ensures moves_entry { sign.kind ≡ kind.Typeset → Moves (tag.Value ∷ [], tag.Value ∷ []) frames.old frames.new result }
+    ensures moves_name { sign.kind ≡ kind.Typeset → Moves (tag.ValueWord ∷ [], tag.ValueTypeset ∷ []) frames.old frames.new result }
 {
     if sign.kind != Kind::Typeset {
         return Err(frames.opened.stray());
@@ -416,7 +448,9 @@ pub fn typeset(frames: &mut Frames, sign: Sign, bytes: &[u8]) -> Result<(), Unbu
 /// A newline or `;` among entries.
 #[tactic(auto, using(crate::proofs::Onto::value_loaded))]
 pub fn break_entries(frames: &mut Frames, sign: Sign, bytes: &[u8]) -> Result<(), Unbuilt>
-    ensures { Grows (Lexed sign bytes.now) frames.old frames.new result }
+    ensures grows { Grows (Lexed sign bytes.now) frames.old frames.new result }
+    ensures moves_entry { breaks sign.kind ≡ true → Moves (tag.Value ∷ [], tag.Value ∷ []) frames.old frames.new result }
+    ensures moves_named { breaks sign.kind ≡ true → Moves (tag.ValueBroken ∷ [], tag.ValueBroken ∷ []) frames.old frames.new result }
 {
     if !breaks(sign.kind) {
         return Err(frames.opened.stray());
@@ -430,13 +464,14 @@ pub fn break_entries(frames: &mut Frames, sign: Sign, bytes: &[u8]) -> Result<()
 }
 
 /// The word that a simple command is; nothing where it is more.
-#[tactic(auto, using(crate::proofs::Names::one_word))]
+#[tactic(auto, using(crate::proofs::Names::one_word, crate::proofs::Names::word_alone, crate::proofs::Names::word_there))]
 fn only_word(
     given: Items<Assign>,
     words: Items<Argument>,
     redirects: Items<Redirect<Word>>,
 ) -> Option<Word>
-    ensures { IfSome result (λ word. IsOneWord given words redirects word) }
+    ensures one { IfSome result (λ word. IsOneWord given words redirects word) }
+    ensures none { result ≡ None → (word : List Piece) → IsOneWord given words redirects word → ⊥ }
 {
     if !given.is_empty() {
         return None;
@@ -455,20 +490,21 @@ fn only_word(
 }
 
 /// The bytes of a word that is an unquoted literal.
-#[tactic(auto, using(crate::proofs::Names::one_literal))]
+#[tactic(auto, using(crate::proofs::Names::one_plain, crate::proofs::Names::names_not_none, crate::proofs::Names::names_not_more, crate::proofs::Names::names_not_other, crate::proofs::Names::names_not_quoted, crate::proofs::Names::names_not_empty))]
 fn literal_text(word: Word) -> Option<Text>
-    ensures { IfSome result (λ text. word ≡ literal text false) }
+    ensures text { IfSome result (λ text. word ≡ literal text false) }
+    ensures none { result ≡ None → IsNames word → ⊥ }
 {
     let mut front = word;
-    let Some(
-        Piece::Literal {
-            text,
-            quoted: false,
-        },
-    ) = front.pop()
-    else {
+    let Some(last) = front.pop() else {
         return None;
     };
+    let Piece::Literal { text, quoted } = last else {
+        return None;
+    };
+    if quoted {
+        return None;
+    }
     if !front.is_empty() {
         return None;
     }
@@ -480,7 +516,8 @@ fn literal_text(word: Word) -> Option<Text>
 
 /// Takes newlines and `;` from behind entries, and what stands before them.
 fn before_breaks(entries: &mut Items<Entry>) -> Option<Entry>
-    ensures { IfSome result (λ entry. StandsBehind entries.old entries.new entry) }
+    ensures some { IfSome result (λ e. StandsBehind entries.old entries.new e × (e ≡ entry.Break → ⊥)) }
+    ensures none { result ≡ None → are_breaks entries.old ≡ true }
 {
     while let Some(entry) = entries.pop() {
         match entry {
@@ -491,21 +528,38 @@ fn before_breaks(entries: &mut Items<Entry>) -> Option<Entry>
     None
 }
 
+/// The bytes of an entry that is a word of plain bytes, or `typeset`.
+#[tactic(auto, using(crate::proofs::Names::names_by))]
+fn word_of(alloc: Global, entry: Entry) -> Result<Option<Text>, Memory>
+    ensures some { IfOk result (λ o. IfSome o (λ text. IsWordOf entry text)) }
+    ensures none { IfOk result (λ o. o ≡ None → (name : List ℕ) → all_names (names_of name) ≡ true → IsWordOf entry name → ⊥) }
+{
+    match entry {
+        Entry::Word(word, _) => Ok(literal_text(word)),
+        Entry::Typeset => Ok(Some(Text::of(alloc, b"typeset")?)),
+        _ => Ok(None),
+    }
+}
+
 /// Takes `function`, a name and newlines from behind entries: the first's place, and the name.
-#[tactic(auto, using(crate::proofs::Names::ends_with_function))]
+#[tactic(auto, using(crate::proofs::Names::ends_with, crate::proofs::Names::never_breaks, crate::proofs::Names::named_first, crate::proofs::Names::named_other, crate::proofs::Names::named_nothing, crate::proofs::Names::named_quoted, crate::proofs::Names::named_unnamed))]
 fn named_function(
     alloc: Global,
     entries: &mut Items<Entry>,
 ) -> Result<Option<(usize, Items<Name>)>, Memory>
-    ensures { IfOk result (λ o. IfSome o (λ f. EndsWithFunction entries.old entries.new f.0 f.1)) }
+    ensures named { IfOk result (λ o. IfSome o (λ f. EndsWithFunction entries.old entries.new f.0 f.1)) }
+    ensures none { IfOk result (λ o. o ≡ None → Is tag.ValueBroken (Value entries.old) → ⊥) }
 {
-    let Some(Entry::Word(name, _)) = before_breaks(entries) else {
+    let Some(named) = before_breaks(entries) else {
         return Ok(None);
     };
-    let Some(Entry::Word(word, from)) = entries.pop() else {
+    let Some(last) = entries.pop() else {
         return Ok(None);
     };
-    let Some(name) = literal_text(name) else {
+    let Entry::Word(word, from) = last else {
+        return Ok(None);
+    };
+    let Some(name) = word_of(alloc, named)? else {
         return Ok(None);
     };
     let Some(_word) = literal_text(word) else {
@@ -524,7 +578,8 @@ fn named_text(
     entries: &mut Items<Entry>,
     moment: Moment,
 ) -> Result<Option<(usize, Items<Name>, Text)>, Memory>
-    ensures { IfOk result (λ o. IfSome o (λ f. EndsWithFunction entries.old entries.new f.0 f.1 × (f.2 ≡ slice script.now f.0 moment.to))) }
+    ensures named { IfOk result (λ o. IfSome o (λ f. EndsWithFunction entries.old entries.new f.0 f.1 × (f.2 ≡ slice script.now f.0 moment.to))) }
+    ensures none { IfOk result (λ o. o ≡ None → Is tag.ValueBroken (Value entries.old) → ⊥) }
 {
     let Some((from, names)) = named_function(alloc, entries)? else {
         return Ok(None);

@@ -1,4 +1,10 @@
 //! Pipelines and lists of commands.
+ghost use Rattle.ksh_ast.specs.declared.tree.Command.{Command};
+ghost use Rattle.ksh_syntax.specs.declared.kind.Kind.TheVariants as kind;
+ghost use Rattle.std.specs.Prelude.{None, [], ℕ, ◌∷◌, ◌≡◌};
+ghost use Rattle.tree_build.specs.Fits.{Moves};
+ghost use Rattle.tree_moves.specs.Tags as tag;
+ghost use Rattle.tree_parts.specs.Parts.{ended_by, joins};
 ghost use Rattle.tree_build.specs.Frames.{Grows, Stays};
 ghost use Rattle.tree_build.specs.Heard.{Lexed, Marked};
 ghost use Rattle.ksh_syntax.specs.declared.part.Mark.TheVariants.{AndOrBegins, ListEnds, PipelineBegins};
@@ -14,9 +20,10 @@ use std::alloc::Global;
 use tree_parts::{Moment, Sign, ended_by, joins, list_of, negated, piped};
 
 /// The `!` before a pipeline.
-#[tactic(auto, using(crate::proofs::Listing::reads_bang, crate::proofs::Onto::stages_on, crate::proofs::Onto::stages_loaded))]
+#[tactic(auto, using(crate::proofs::Listing::reads_bang, crate::proofs::Onto::stages_on, crate::proofs::Onto::stages_loaded, crate::proofs::MovingP::negates))]
 pub fn negate(frames: &mut Frames, sign: Sign, bytes: &[u8]) -> Result<(), Unbuilt>
-    ensures { Grows (Lexed sign bytes.now) frames.old frames.new result }
+    ensures grows { Grows (Lexed sign bytes.now) frames.old frames.new result }
+    ensures moves { sign.kind ≡ kind.Bang → Moves (tag.StagesFirst ∷ [], tag.Stages ∷ []) frames.old frames.new result }
 {
     if sign.kind != Kind::Bang {
         return Err(frames.opened.stray());
@@ -38,7 +45,8 @@ pub fn negate(frames: &mut Frames, sign: Sign, bytes: &[u8]) -> Result<(), Unbui
 /// A `|` behind a command.
 #[tactic(auto, using(crate::proofs::Onto::finished_loaded, crate::proofs::Onto::stages_loaded))]
 pub fn bar(frames: &mut Frames, alloc: Global, sign: Sign, bytes: &[u8]) -> Result<(), Unbuilt>
-    ensures { Grows (Lexed sign bytes.now) frames.old frames.new result }
+    ensures grows { Grows (Lexed sign bytes.now) frames.old frames.new result }
+    ensures moves { sign.kind ≡ kind.Bar → Moves (tag.Finished ∷ tag.Stages ∷ [], tag.Stages ∷ []) frames.old frames.new result }
 {
     if sign.kind != Kind::Bar {
         return Err(frames.opened.stray());
@@ -63,7 +71,8 @@ pub fn bar(frames: &mut Frames, alloc: Global, sign: Sign, bytes: &[u8]) -> Resu
 /// Makes a pipeline of its commands.
 #[tactic(auto, using(crate::proofs::Onto::finished_loaded, crate::proofs::Onto::stages_loaded))]
 fn finish_pipeline(frames: &mut Frames, alloc: Global) -> Result<(), Unbuilt>
-    ensures { Stays frames.old frames.new result }
+    ensures stays { Stays frames.old frames.new result }
+    ensures moves { Moves (tag.Finished ∷ tag.Stages ∷ [], tag.Piped ∷ []) frames.old frames.new result }
 {
     let Some(Open::Finished(own)) = frames.opened.pop() else {
         return Err(frames.opened.stray());
@@ -91,7 +100,8 @@ fn finish_pipeline(frames: &mut Frames, alloc: Global) -> Result<(), Unbuilt>
 /// An `&&` or `||` behind the first pipeline.
 #[tactic(auto, using(crate::proofs::Onto::piped_loaded, crate::proofs::Onto::no_link_loaded))]
 fn first_link(frames: &mut Frames, alloc: Global, sign: Sign, bytes: &[u8]) -> Result<(), Unbuilt>
-    ensures { Grows (Lexed sign bytes.now) frames.old frames.new result }
+    ensures grows { Grows (Lexed sign bytes.now) frames.old frames.new result }
+    ensures moves { (joins sign.kind ≡ None → ⊥) → Moves (tag.Piped ∷ tag.NoLink ∷ [], tag.Linked ∷ []) frames.old frames.new result }
 {
     let Some(then_or) = joins(sign.kind) else {
         return Err(frames.opened.stray());
@@ -110,7 +120,8 @@ fn first_link(frames: &mut Frames, alloc: Global, sign: Sign, bytes: &[u8]) -> R
 /// An `&&` or `||` behind a later one.
 #[tactic(auto, using(crate::proofs::Onto::piped_loaded, crate::proofs::Onto::linked_loaded))]
 fn next_link(frames: &mut Frames, sign: Sign, bytes: &[u8]) -> Result<(), Unbuilt>
-    ensures { Grows (Lexed sign bytes.now) frames.old frames.new result }
+    ensures grows { Grows (Lexed sign bytes.now) frames.old frames.new result }
+    ensures moves { (joins sign.kind ≡ None → ⊥) → Moves (tag.Piped ∷ tag.Linked ∷ [], tag.Linked ∷ []) frames.old frames.new result }
 {
     let Some(then_or) = joins(sign.kind) else {
         return Err(frames.opened.stray());
@@ -132,8 +143,10 @@ fn next_link(frames: &mut Frames, sign: Sign, bytes: &[u8]) -> Result<(), Unbuil
 }
 
 /// An `&&` or `||` behind a pipeline.
+#[tactic(auto, using(crate::proofs::MovingP::is_linked, crate::proofs::MovingP::is_not_linked))]
 fn link(frames: &mut Frames, alloc: Global, sign: Sign, bytes: &[u8]) -> Result<(), Unbuilt>
-    ensures { Grows (Lexed sign bytes.now) frames.old frames.new result }
+    ensures grows { Grows (Lexed sign bytes.now) frames.old frames.new result }
+    ensures moves { (joins sign.kind ≡ None → ⊥) → Moves (tag.Piped ∷ tag.Link ∷ [], tag.Linked ∷ []) frames.old frames.new result }
 {
     match frames.at(1) {
         Place::Linked => next_link(frames, sign, bytes),
@@ -144,7 +157,8 @@ fn link(frames: &mut Frames, alloc: Global, sign: Sign, bytes: &[u8]) -> Result<
 /// An `&&` or `||` behind a command.
 #[tactic(auto, using(crate::proofs::Steps::stays_grows))]
 pub fn join(frames: &mut Frames, alloc: Global, sign: Sign, bytes: &[u8]) -> Result<(), Unbuilt>
-    ensures { Grows (Lexed sign bytes.now) frames.old frames.new result }
+    ensures grows { Grows (Lexed sign bytes.now) frames.old frames.new result }
+    ensures moves { (joins sign.kind ≡ None → ⊥) → Moves (tag.Finished ∷ tag.Stages ∷ tag.Link ∷ [], tag.Linked ∷ []) frames.old frames.new result }
 {
     finish_pipeline(frames, alloc)?;
     link(frames, alloc, sign, bytes)
@@ -153,7 +167,8 @@ pub fn join(frames: &mut Frames, alloc: Global, sign: Sign, bytes: &[u8]) -> Res
 /// A list of one pipeline.
 #[tactic(auto, using(crate::proofs::Onto::piped_loaded, crate::proofs::Onto::no_link_loaded))]
 fn finish_one(frames: &mut Frames) -> Result<(), Unbuilt>
-    ensures { Stays frames.old frames.new result }
+    ensures stays { Stays frames.old frames.new result }
+    ensures moves { Moves (tag.Piped ∷ tag.NoLink ∷ [], tag.Chain ∷ []) frames.old frames.new result }
 {
     let Some(Open::Piped(line)) = frames.opened.pop() else {
         return Err(frames.opened.stray());
@@ -168,7 +183,8 @@ fn finish_one(frames: &mut Frames) -> Result<(), Unbuilt>
 /// A list of several pipelines.
 #[tactic(auto, using(crate::proofs::Onto::piped_loaded, crate::proofs::Onto::linked_loaded))]
 fn finish_several(frames: &mut Frames, alloc: Global) -> Result<(), Unbuilt>
-    ensures { Stays frames.old frames.new result }
+    ensures stays { Stays frames.old frames.new result }
+    ensures moves { Moves (tag.Piped ∷ tag.Linked ∷ [], tag.Chain ∷ []) frames.old frames.new result }
 {
     let Some(Open::Piped(_)) = frames.opened.pop() else {
         return Err(frames.opened.stray());
@@ -197,8 +213,10 @@ fn finish_several(frames: &mut Frames, alloc: Global) -> Result<(), Unbuilt>
 }
 
 /// Makes a command of a list of pipelines.
+#[tactic(auto, using(crate::proofs::MovingP::is_linked, crate::proofs::MovingP::is_not_linked))]
 fn finish_links(frames: &mut Frames, alloc: Global) -> Result<(), Unbuilt>
-    ensures { Stays frames.old frames.new result }
+    ensures stays { Stays frames.old frames.new result }
+    ensures moves { Moves (tag.Piped ∷ tag.Link ∷ [], tag.Chain ∷ []) frames.old frames.new result }
 {
     match frames.at(1) {
         Place::Linked => finish_several(frames, alloc),
@@ -208,7 +226,8 @@ fn finish_links(frames: &mut Frames, alloc: Global) -> Result<(), Unbuilt>
 
 #[tactic(auto, using(crate::proofs::Steps::stays_stays))]
 fn finish_chain(frames: &mut Frames, alloc: Global) -> Result<(), Unbuilt>
-    ensures { Stays frames.old frames.new result }
+    ensures stays { Stays frames.old frames.new result }
+    ensures moves { Moves (tag.Finished ∷ tag.Stages ∷ tag.Link ∷ [], tag.Chain ∷ []) frames.old frames.new result }
 {
     finish_pipeline(frames, alloc)?;
     finish_links(frames, alloc)
@@ -217,7 +236,8 @@ fn finish_chain(frames: &mut Frames, alloc: Global) -> Result<(), Unbuilt>
 /// What ends a list of pipelines.
 #[tactic(auto, using(crate::proofs::Onto::chain_loaded, crate::proofs::Onto::lines_loaded))]
 fn end_chain(frames: &mut Frames, alloc: Global, sign: Sign, bytes: &[u8]) -> Result<(), Unbuilt>
-    ensures { Grows (Lexed sign bytes.now) frames.old frames.new result }
+    ensures grows { Grows (Lexed sign bytes.now) frames.old frames.new result }
+    ensures moves { ((line : ℕ) (c : Command) → ended_by sign.kind line c ≡ None → ⊥) → Moves (tag.Chain ∷ tag.Lines ∷ [], tag.Lines ∷ []) frames.old frames.new result }
 {
     let Some(Open::Chain(line)) = frames.opened.pop() else {
         return Err(frames.opened.stray());
@@ -247,16 +267,18 @@ pub fn end_command(
     sign: Sign,
     bytes: &[u8],
 ) -> Result<(), Unbuilt>
-    ensures { Grows (Lexed sign bytes.now) frames.old frames.new result }
+    ensures grows { Grows (Lexed sign bytes.now) frames.old frames.new result }
+    ensures moves { ((line : ℕ) (c : Command) → ended_by sign.kind line c ≡ None → ⊥) → Moves (tag.Finished ∷ tag.Stages ∷ tag.Link ∷ tag.Lines ∷ [], tag.Lines ∷ []) frames.old frames.new result }
 {
     finish_chain(frames, alloc)?;
     end_chain(frames, alloc, sign, bytes)
 }
 
 /// A list ends behind what ended its last command.
-#[tactic(auto, using(crate::proofs::Listing::reads_list, crate::proofs::Onto::lines_on, crate::proofs::Onto::listed_on, crate::proofs::Onto::lines_loaded))]
+#[tactic(auto, using(crate::proofs::Listing::reads_list, crate::proofs::Onto::lines_on, crate::proofs::Onto::listed_on, crate::proofs::Onto::lines_loaded, crate::proofs::MovingP::closes_lines))]
 fn close_lines(frames: &mut Frames, alloc: Global, moment: Moment) -> Result<(), Unbuilt>
-    ensures { Grows (Marked ListEnds moment) frames.old frames.new result }
+    ensures grows { Grows (Marked ListEnds moment) frames.old frames.new result }
+    ensures moves { Moves (tag.Lines ∷ [], tag.Listed ∷ []) frames.old frames.new result }
 {
     let Some(Open::Lines) = frames.opened.pop() else {
         return Err(frames.opened.stray());
@@ -275,7 +297,8 @@ fn close_lines(frames: &mut Frames, alloc: Global, moment: Moment) -> Result<(),
 /// A list ends behind its last command.
 #[tactic(auto, using(crate::proofs::Onto::chain_loaded, crate::proofs::Onto::lines_loaded))]
 fn close_last(frames: &mut Frames, alloc: Global, moment: Moment) -> Result<(), Unbuilt>
-    ensures { Grows (Marked ListEnds moment) frames.old frames.new result }
+    ensures grows { Grows (Marked ListEnds moment) frames.old frames.new result }
+    ensures moves { Moves (tag.Chain ∷ tag.Lines ∷ [], tag.Listed ∷ []) frames.old frames.new result }
 {
     let Some(Open::Chain(line)) = frames.opened.pop() else {
         return Err(frames.opened.stray());
@@ -300,8 +323,11 @@ fn close_last(frames: &mut Frames, alloc: Global, moment: Moment) -> Result<(), 
     Ok(())
 }
 
+#[tactic(auto, using(crate::proofs::MovingP::no_lines, crate::proofs::MovingP::no_chain))]
 fn close_list(frames: &mut Frames, alloc: Global, moment: Moment) -> Result<(), Unbuilt>
-    ensures { Grows (Marked ListEnds moment) frames.old frames.new result }
+    ensures grows { Grows (Marked ListEnds moment) frames.old frames.new result }
+    ensures moves_lines { Moves (tag.Lines ∷ [], tag.Listed ∷ []) frames.old frames.new result }
+    ensures moves_chain { Moves (tag.Chain ∷ tag.Lines ∷ [], tag.Listed ∷ []) frames.old frames.new result }
 {
     match frames.at(0) {
         Place::Lines => close_lines(frames, alloc, moment),
@@ -310,9 +336,11 @@ fn close_list(frames: &mut Frames, alloc: Global, moment: Moment) -> Result<(), 
 }
 
 /// Makes a command of a list of pipelines that no token ended.
-#[tactic(auto, using(crate::proofs::Steps::nothing_stays))]
+#[tactic(auto, using(crate::proofs::Steps::nothing_stays, crate::proofs::MovingP::finished_no_lines, crate::proofs::MovingP::no_finished, crate::proofs::MovingP::lines_stay))]
 fn finish_last(frames: &mut Frames, alloc: Global) -> Result<(), Unbuilt>
-    ensures { Stays frames.old frames.new result }
+    ensures stays { Stays frames.old frames.new result }
+    ensures moves_lines { Moves (tag.Lines ∷ [], tag.Lines ∷ []) frames.old frames.new result }
+    ensures moves_chain { Moves (tag.Finished ∷ tag.Stages ∷ tag.Link ∷ [], tag.Chain ∷ []) frames.old frames.new result }
 {
     match frames.at(0) {
         Place::Finished => finish_chain(frames, alloc),
@@ -323,7 +351,9 @@ fn finish_last(frames: &mut Frames, alloc: Global) -> Result<(), Unbuilt>
 /// A list of commands ends.
 #[tactic(auto, using(crate::proofs::Steps::stays_grows))]
 pub fn end_list(frames: &mut Frames, alloc: Global, moment: Moment) -> Result<(), Unbuilt>
-    ensures { Grows (Marked ListEnds moment) frames.old frames.new result }
+    ensures grows { Grows (Marked ListEnds moment) frames.old frames.new result }
+    ensures moves_lines { Moves (tag.Lines ∷ [], tag.Listed ∷ []) frames.old frames.new result }
+    ensures moves_chain { Moves (tag.Finished ∷ tag.Stages ∷ tag.Link ∷ tag.Lines ∷ [], tag.Listed ∷ []) frames.old frames.new result }
 {
     finish_last(frames, alloc)?;
     close_list(frames, alloc, moment)

@@ -1,10 +1,17 @@
 //! `for`, `select` and `case`.
-ghost use Rattle.std.specs.Prelude.{◌≡◌, [], ◌∷◌, ◌++◌, IfOk, IfSome, false};
+ghost use Rattle.ksh_syntax.specs.declared.kind.Kind.TheVariants as kind;
+ghost use Rattle.tree_build.specs.Fits.{Fits, Moves};
+ghost use Rattle.tree_build.specs.Loads.{Loads, frames_of};
+ghost use Rattle.tree_moves.specs.Tags.{Tag};
+ghost use Rattle.tree_build.specs.Tables.{ends_item, ends_part, is_word};
+ghost use Rattle.tree_moves.specs.Tags as tag;
+ghost use Rattle.tree_parts.specs.Parts.{is_name};
+ghost use Rattle.std.specs.Prelude.{◌≡◌, [], ◌∷◌, ◌++◌, IfOk, IfSome, false, None, true, length, List};
 ghost use Rattle.ksh_ast.specs.declared.tree.Command.TheVariants.{Case};
 ghost use Rattle.tree_build.specs.Counts.{Counts};
 ghost use Rattle.tree_build.specs.Frames.{Grows};
 ghost use Rattle.tree_build.specs.Heard.{Lexed};
-ghost use Rattle.tree_build.specs.Reads.{case_item, repeated};
+ghost use Rattle.tree_build.specs.Reads.{case_item, repeated, breaks};
 ghost use Rattle.tree_build.specs.declared.opening.Open.TheVariants.{Cases, Listed, Patterns};
 
 use crate::begins::open_list;
@@ -23,9 +30,11 @@ use std::alloc::Global;
 use tree_parts::{Sign, name_of, part_of_for};
 
 /// The name of `for` or `select`.
-#[tactic(auto, using(crate::proofs::Compounding::reads_for_name, crate::proofs::Onto::for_on, crate::proofs::Onto::for_name_on, crate::proofs::Onto::for_loaded))]
+#[tactic(auto, using(crate::proofs::Compounding::reads_for_name, crate::proofs::Onto::for_on, crate::proofs::Onto::for_name_on, crate::proofs::Onto::for_loaded, crate::proofs::MovingR::moves_for, crate::proofs::MovingR::moves_select))]
 pub fn for_name(frames: &mut Frames, alloc: Global, sign: Sign, bytes: &[u8]) -> Result<(), Unbuilt>
-    ensures { Grows (Lexed sign bytes.now) frames.old frames.new result }
+    ensures grows { Grows (Lexed sign bytes.now) frames.old frames.new result }
+    ensures moves_for { is_word sign.kind ≡ true → is_name bytes.now ≡ true → Moves (tag.ForLoop ∷ [], tag.ForName ∷ []) frames.old frames.new result }
+    ensures moves_select { is_word sign.kind ≡ true → is_name bytes.now ≡ true → Moves (tag.ForSelect ∷ [], tag.ForName ∷ []) frames.old frames.new result }
 {
     if !is_word(sign.kind) {
         return Err(frames.opened.stray());
@@ -47,9 +56,10 @@ pub fn for_name(frames: &mut Frames, alloc: Global, sign: Sign, bytes: &[u8]) ->
 }
 
 /// `in` behind the name.
-#[tactic(auto, using(crate::proofs::Compounding::reads_for_in, crate::proofs::Onto::for_name_on, crate::proofs::Onto::for_words_on, crate::proofs::Onto::for_name_loaded))]
+#[tactic(auto, using(crate::proofs::Compounding::reads_for_in, crate::proofs::Onto::for_name_on, crate::proofs::Onto::for_words_on, crate::proofs::Onto::for_name_loaded, crate::proofs::MovingR::moves_for_in))]
 pub fn for_in(frames: &mut Frames, alloc: Global, sign: Sign, bytes: &[u8]) -> Result<(), Unbuilt>
-    ensures { Grows (Lexed sign bytes.now) frames.old frames.new result }
+    ensures grows { Grows (Lexed sign bytes.now) frames.old frames.new result }
+    ensures moves { sign.kind ≡ kind.In → Moves (tag.ForName ∷ [], tag.ForWords ∷ []) frames.old frames.new result }
 {
     if sign.kind != Kind::In {
         return Err(frames.opened.stray());
@@ -65,9 +75,10 @@ pub fn for_in(frames: &mut Frames, alloc: Global, sign: Sign, bytes: &[u8]) -> R
 }
 
 /// `do` behind the name.
-#[tactic(auto, using(crate::proofs::Compounding::reads_for_do, crate::proofs::Onto::for_name_on, crate::proofs::Onto::for_body_on, crate::proofs::Onto::for_name_loaded))]
+#[tactic(auto, using(crate::proofs::Compounding::reads_for_do, crate::proofs::Onto::for_name_on, crate::proofs::Onto::for_body_on, crate::proofs::Onto::for_name_loaded, crate::proofs::MovingR::moves_do_name))]
 fn do_name(frames: &mut Frames, sign: Sign, bytes: &[u8]) -> Result<(), Unbuilt>
-    ensures { Grows (Lexed sign bytes.now) frames.old frames.new result }
+    ensures grows { Grows (Lexed sign bytes.now) frames.old frames.new result }
+    ensures moves { sign.kind ≡ kind.Do → Moves (tag.ForName ∷ [], tag.ForBody ∷ []) frames.old frames.new result }
 {
     if sign.kind != Kind::Do {
         return Err(frames.opened.stray());
@@ -83,9 +94,10 @@ fn do_name(frames: &mut Frames, sign: Sign, bytes: &[u8]) -> Result<(), Unbuilt>
 }
 
 /// `do` behind the words.
-#[tactic(auto, using(crate::proofs::Compounding::reads_for_words_do, crate::proofs::Onto::for_ready_on, crate::proofs::Onto::for_body_on, crate::proofs::Onto::for_ready_loaded))]
+#[tactic(auto, using(crate::proofs::Compounding::reads_for_words_do, crate::proofs::Onto::for_ready_on, crate::proofs::Onto::for_body_on, crate::proofs::Onto::for_ready_loaded, crate::proofs::MovingR::moves_do_words))]
 fn do_words(frames: &mut Frames, sign: Sign, bytes: &[u8]) -> Result<(), Unbuilt>
-    ensures { Grows (Lexed sign bytes.now) frames.old frames.new result }
+    ensures grows { Grows (Lexed sign bytes.now) frames.old frames.new result }
+    ensures moves { sign.kind ≡ kind.Do → Moves (tag.ForReady ∷ [], tag.ForBody ∷ []) frames.old frames.new result }
 {
     if sign.kind != Kind::Do {
         return Err(frames.opened.stray());
@@ -104,9 +116,10 @@ fn do_words(frames: &mut Frames, sign: Sign, bytes: &[u8]) -> Result<(), Unbuilt
 }
 
 /// `do` behind `for ((`.
-#[tactic(auto, using(crate::proofs::Compounding::reads_for_arithmetic_do, crate::proofs::Onto::for_arithmetic_on, crate::proofs::Onto::for_arithmetic_body_on, crate::proofs::Onto::for_arithmetic_loaded))]
+#[tactic(auto, using(crate::proofs::Compounding::reads_for_arithmetic_do, crate::proofs::Onto::for_arithmetic_on, crate::proofs::Onto::for_arithmetic_body_on, crate::proofs::Onto::for_arithmetic_loaded, crate::proofs::MovingR::moves_do_parts))]
 fn do_parts(frames: &mut Frames, sign: Sign, bytes: &[u8]) -> Result<(), Unbuilt>
-    ensures { Grows (Lexed sign bytes.now) frames.old frames.new result }
+    ensures grows { Grows (Lexed sign bytes.now) frames.old frames.new result }
+    ensures moves { sign.kind ≡ kind.Do → Moves (tag.ForArithmeticThree ∷ [], tag.ForArithmeticBody ∷ []) frames.old frames.new result }
 {
     if sign.kind != Kind::Do {
         return Err(frames.opened.stray());
@@ -120,8 +133,12 @@ fn do_parts(frames: &mut Frames, sign: Sign, bytes: &[u8]) -> Result<(), Unbuilt
     Ok(())
 }
 
+#[tactic(auto, using(crate::proofs::MovingR::ready_not_name, crate::proofs::MovingR::parts_not_name, crate::proofs::MovingR::name_not_ready, crate::proofs::MovingR::parts_not_ready))]
 fn end_for_words(frames: &mut Frames, sign: Sign, bytes: &[u8]) -> Result<(), Unbuilt>
-    ensures { Grows (Lexed sign bytes.now) frames.old frames.new result }
+    ensures grows { Grows (Lexed sign bytes.now) frames.old frames.new result }
+    ensures moves_name { sign.kind ≡ kind.Do → Moves (tag.ForName ∷ [], tag.ForBody ∷ []) frames.old frames.new result }
+    ensures moves_words { sign.kind ≡ kind.Do → Moves (tag.ForReady ∷ [], tag.ForBody ∷ []) frames.old frames.new result }
+    ensures moves_parts { sign.kind ≡ kind.Do → Moves (tag.ForArithmeticThree ∷ [], tag.ForArithmeticBody ∷ []) frames.old frames.new result }
 {
     match frames.at(0) {
         Place::ForName => do_name(frames, sign, bytes),
@@ -131,9 +148,10 @@ fn end_for_words(frames: &mut Frames, sign: Sign, bytes: &[u8]) -> Result<(), Un
 }
 
 /// The newline or `;` behind the words of `for` or `select`.
-#[tactic(auto, using(crate::proofs::Compounding::reads_for_words_end, crate::proofs::Onto::for_words_on, crate::proofs::Onto::for_ready_on, crate::proofs::Onto::for_words_loaded))]
+#[tactic(auto, using(crate::proofs::Compounding::reads_for_words_end, crate::proofs::Onto::for_words_on, crate::proofs::Onto::for_ready_on, crate::proofs::Onto::for_words_loaded, crate::proofs::MovingR::moves_end_words))]
 pub fn end_words(frames: &mut Frames, sign: Sign, bytes: &[u8]) -> Result<(), Unbuilt>
-    ensures { Grows (Lexed sign bytes.now) frames.old frames.new result }
+    ensures grows { Grows (Lexed sign bytes.now) frames.old frames.new result }
+    ensures moves { breaks sign.kind ≡ true → Moves (tag.ForWords ∷ [], tag.ForReady ∷ []) frames.old frames.new result }
 {
     if !breaks(sign.kind) {
         return Err(frames.opened.stray());
@@ -148,9 +166,12 @@ pub fn end_words(frames: &mut Frames, sign: Sign, bytes: &[u8]) -> Result<(), Un
 }
 
 /// The `do` of `for` or `select`.
-#[tactic(auto, using(crate::proofs::Steps::grows_stays))]
+#[tactic(auto, using(crate::proofs::Steps::grows_stays, crate::proofs::MovingR::fails_as))]
 pub fn do_for(frames: &mut Frames, alloc: Global, sign: Sign, bytes: &[u8]) -> Result<(), Unbuilt>
-    ensures { Grows (Lexed sign bytes.now) frames.old frames.new result }
+    ensures grows { Grows (Lexed sign bytes.now) frames.old frames.new result }
+    ensures moves_name { sign.kind ≡ kind.Do → Moves (tag.ForName ∷ [], tag.Lines ∷ tag.ForBody ∷ []) frames.old frames.new result }
+    ensures moves_words { sign.kind ≡ kind.Do → Moves (tag.ForReady ∷ [], tag.Lines ∷ tag.ForBody ∷ []) frames.old frames.new result }
+    ensures moves_parts { sign.kind ≡ kind.Do → Moves (tag.ForArithmeticThree ∷ [], tag.Lines ∷ tag.ForArithmeticBody ∷ []) frames.old frames.new result }
 {
     end_for_words(frames, sign, bytes)?;
     open_list(frames, alloc)
@@ -186,7 +207,8 @@ fn repeated(
 /// The `done` of `for` or `select`.
 #[tactic(auto, using(crate::proofs::Onto::listed_loaded, crate::proofs::Onto::for_body_loaded))]
 pub fn end_for(frames: &mut Frames, alloc: Global, sign: Sign, bytes: &[u8]) -> Result<(), Unbuilt>
-    ensures { Grows (Lexed sign bytes.now) frames.old frames.new result }
+    ensures grows { Grows (Lexed sign bytes.now) frames.old frames.new result }
+    ensures moves { sign.kind ≡ kind.Done → Moves (tag.Listed ∷ tag.ForBody ∷ [], tag.Compound ∷ []) frames.old frames.new result }
 {
     if sign.kind != Kind::Done {
         return Err(frames.opened.stray());
@@ -217,14 +239,15 @@ pub fn end_for(frames: &mut Frames, alloc: Global, sign: Sign, bytes: &[u8]) -> 
     Ok(())
 }
 
-#[tactic(auto, using(crate::proofs::Compounding::reads_for_arithmetic, crate::proofs::Onto::for_on, crate::proofs::Onto::for_arithmetic_on, crate::proofs::Onto::for_loaded))]
+#[tactic(auto, using(crate::proofs::Compounding::reads_for_arithmetic, crate::proofs::Onto::for_on, crate::proofs::Onto::for_arithmetic_on, crate::proofs::Onto::for_loaded, crate::proofs::MovingR::moves_for_arithmetic))]
 fn open_for_arithmetic(
     frames: &mut Frames,
     alloc: Global,
     sign: Sign,
     bytes: &[u8],
 ) -> Result<(), Unbuilt>
-    ensures { Grows (Lexed sign bytes.now) frames.old frames.new result }
+    ensures grows { Grows (Lexed sign bytes.now) frames.old frames.new result }
+    ensures moves { sign.kind ≡ kind.DoubleParenthesis → Moves (tag.ForLoop ∷ [], tag.ForArithmeticNone ∷ []) frames.old frames.new result }
 {
     if sign.kind != Kind::DoubleParenthesis {
         return Err(frames.opened.stray());
@@ -238,14 +261,15 @@ fn open_for_arithmetic(
 }
 
 /// The `((` of `for`.
-#[tactic(auto, using(crate::proofs::Steps::grows_stays))]
+#[tactic(auto, using(crate::proofs::Steps::grows_stays, crate::proofs::MovingR::fails_as))]
 pub fn begin_for_arithmetic(
     frames: &mut Frames,
     alloc: Global,
     sign: Sign,
     bytes: &[u8],
 ) -> Result<(), Unbuilt>
-    ensures { Grows (Lexed sign bytes.now) frames.old frames.new result }
+    ensures grows { Grows (Lexed sign bytes.now) frames.old frames.new result }
+    ensures moves { sign.kind ≡ kind.DoubleParenthesis → Moves (tag.ForLoop ∷ [], tag.Text ∷ tag.ForArithmeticNone ∷ []) frames.old frames.new result }
 {
     open_for_arithmetic(frames, alloc, sign, bytes)?;
     open_text(frames, alloc)
@@ -259,7 +283,10 @@ pub fn close_for_part(
     sign: Sign,
     bytes: &[u8],
 ) -> Result<(), Unbuilt>
-    ensures { Grows (Lexed sign bytes.now) frames.old frames.new result }
+    ensures grows { Grows (Lexed sign bytes.now) frames.old frames.new result }
+    ensures moves_first { ends_part sign.kind ≡ true → Moves (tag.Text ∷ tag.ForArithmeticNone ∷ [], tag.ForArithmeticOne ∷ []) frames.old frames.new result }
+    ensures moves_second { ends_part sign.kind ≡ true → Moves (tag.Text ∷ tag.ForArithmeticOne ∷ [], tag.ForArithmeticTwo ∷ []) frames.old frames.new result }
+    ensures moves_third { ends_part sign.kind ≡ true → Moves (tag.Text ∷ tag.ForArithmeticTwo ∷ [], tag.ForArithmeticThree ∷ []) frames.old frames.new result }
 {
     if !ends_part(sign.kind) {
         return Err(frames.opened.stray());
@@ -273,11 +300,8 @@ pub fn close_for_part(
     let Some(pieces) = frames.texts.words.pop() else {
         unreachable!();
     };
-    let Ok(read) = part_of_for(alloc, pieces) else {
+    let Ok(part) = part_of_for(alloc, pieces) else {
         return Err(frames.opened.lost());
-    };
-    let Some(part) = read else {
-        return Err(frames.opened.stray());
     };
     let ready = frames.compounds.parts.add(part);
     frames.opened.push_after(ready, Open::ForArithmetic(line))?;
@@ -285,9 +309,11 @@ pub fn close_for_part(
 }
 
 /// What parts the expressions of `for ((`.
-#[tactic(auto, using(crate::proofs::Steps::grows_stays))]
+#[tactic(auto, using(crate::proofs::Steps::grows_stays, crate::proofs::MovingR::fails_as))]
 pub fn part_for(frames: &mut Frames, alloc: Global, sign: Sign, bytes: &[u8]) -> Result<(), Unbuilt>
-    ensures { Grows (Lexed sign bytes.now) frames.old frames.new result }
+    ensures grows { Grows (Lexed sign bytes.now) frames.old frames.new result }
+    ensures moves_first { ends_part sign.kind ≡ true → Moves (tag.Text ∷ tag.ForArithmeticNone ∷ [], tag.Text ∷ tag.ForArithmeticOne ∷ []) frames.old frames.new result }
+    ensures moves_second { ends_part sign.kind ≡ true → Moves (tag.Text ∷ tag.ForArithmeticOne ∷ [], tag.Text ∷ tag.ForArithmeticTwo ∷ []) frames.old frames.new result }
 {
     close_for_part(frames, alloc, sign, bytes)?;
     open_text(frames, alloc)
@@ -296,7 +322,8 @@ pub fn part_for(frames: &mut Frames, alloc: Global, sign: Sign, bytes: &[u8]) ->
 /// `for ((` of its expressions and its list; nothing where they aren't three.
 #[tactic(auto, using(crate::proofs::Parts::counts, crate::proofs::Parts::three_or_none, crate::proofs::Parts::three_or_one, crate::proofs::Parts::three_or_two))]
 fn counted(alloc: Global, parts: Items<Option<Arith>>, body: List) -> Option<Command>
-    ensures { IfSome result (λ c. Counts parts body c) }
+    ensures counts { IfSome result (λ c. Counts parts body c) }
+    ensures none { result ≡ None → length parts ≡ 3 → ⊥ }
 {
     if parts.len() != 3 {
         return None;
@@ -328,7 +355,8 @@ pub fn end_for_arithmetic(
     sign: Sign,
     bytes: &[u8],
 ) -> Result<(), Unbuilt>
-    ensures { Grows (Lexed sign bytes.now) frames.old frames.new result }
+    ensures grows { Grows (Lexed sign bytes.now) frames.old frames.new result }
+    ensures moves { sign.kind ≡ kind.Done → Moves (tag.Listed ∷ tag.ForArithmeticBody ∷ [], tag.Compound ∷ []) frames.old frames.new result }
 {
     if sign.kind != Kind::Done {
         return Err(frames.opened.stray());
@@ -359,9 +387,10 @@ pub fn end_for_arithmetic(
 }
 
 /// `in` behind the word of `case`.
-#[tactic(auto, using(crate::proofs::Compounding::reads_case_in, crate::proofs::Onto::case_word_on, crate::proofs::Onto::cases_on, crate::proofs::Onto::case_word_loaded))]
+#[tactic(auto, using(crate::proofs::Compounding::reads_case_in, crate::proofs::Onto::case_word_on, crate::proofs::Onto::cases_on, crate::proofs::Onto::case_word_loaded, crate::proofs::MovingR::moves_case_in))]
 pub fn case_in(frames: &mut Frames, alloc: Global, sign: Sign, bytes: &[u8]) -> Result<(), Unbuilt>
-    ensures { Grows (Lexed sign bytes.now) frames.old frames.new result }
+    ensures grows { Grows (Lexed sign bytes.now) frames.old frames.new result }
+    ensures moves { sign.kind ≡ kind.In → Moves (tag.CaseWord ∷ [], tag.Cases ∷ []) frames.old frames.new result }
 {
     if sign.kind != Kind::In {
         return Err(frames.opened.stray());
@@ -376,7 +405,8 @@ pub fn case_in(frames: &mut Frames, alloc: Global, sign: Sign, bytes: &[u8]) -> 
 
 /// Takes away the list and the patterns of an item, and their `case`; answers the line of that.
 fn pop_item(opened: &mut Stack<Open>) -> Option<u32>
-    ensures { IfSome result (λ line. opened.old ≡ Listed ∷ Patterns ∷ Cases line ∷ opened.new) }
+    ensures some { IfSome result (λ line. opened.old ≡ Listed ∷ Patterns ∷ Cases line ∷ opened.new) }
+    ensures none { result ≡ None → (b : Loads) (rest : List Tag) → Fits (tag.Listed ∷ tag.Patterns ∷ tag.Cases ∷ rest) (frames_of opened.old b) → ⊥ }
 {
     let Some(Open::Listed) = opened.pop() else {
         return None;
@@ -393,7 +423,8 @@ fn pop_item(opened: &mut Stack<Open>) -> Option<u32>
 /// `;;` or `;&`
 #[tactic(auto, using(crate::proofs::Onto::listed_loaded, crate::proofs::Onto::patterns_loaded, crate::proofs::Onto::cases_loaded))]
 pub fn end_item(frames: &mut Frames, sign: Sign, bytes: &[u8]) -> Result<(), Unbuilt>
-    ensures { Grows (Lexed sign bytes.now) frames.old frames.new result }
+    ensures grows { Grows (Lexed sign bytes.now) frames.old frames.new result }
+    ensures moves { (ends_item sign.kind ≡ None → ⊥) → Moves (tag.Listed ∷ tag.Patterns ∷ tag.Cases ∷ [], tag.Cases ∷ []) frames.old frames.new result }
 {
     let Some(falls) = ends_item(sign.kind) else {
         return Err(frames.opened.stray());
@@ -447,7 +478,8 @@ pub fn end_case_list(
     sign: Sign,
     bytes: &[u8],
 ) -> Result<(), Unbuilt>
-    ensures { Grows (Lexed sign bytes.now) frames.old frames.new result }
+    ensures grows { Grows (Lexed sign bytes.now) frames.old frames.new result }
+    ensures moves { sign.kind ≡ kind.Esac → Moves (tag.Listed ∷ tag.Patterns ∷ tag.Cases ∷ [], tag.Compound ∷ []) frames.old frames.new result }
 {
     if sign.kind != Kind::Esac {
         return Err(frames.opened.stray());
@@ -481,9 +513,10 @@ pub fn end_case_list(
 }
 
 /// `esac` behind an item.
-#[tactic(auto, using(crate::proofs::Compounding::reads_case_ends, crate::proofs::Onto::cases_on, crate::proofs::Onto::compound_on, crate::proofs::Onto::cases_loaded))]
+#[tactic(auto, using(crate::proofs::Compounding::reads_case_ends, crate::proofs::Onto::cases_on, crate::proofs::Onto::compound_on, crate::proofs::Onto::cases_loaded, crate::proofs::MovingR::moves_case_ends))]
 pub fn end_case(frames: &mut Frames, alloc: Global, sign: Sign, bytes: &[u8]) -> Result<(), Unbuilt>
-    ensures { Grows (Lexed sign bytes.now) frames.old frames.new result }
+    ensures grows { Grows (Lexed sign bytes.now) frames.old frames.new result }
+    ensures moves { sign.kind ≡ kind.Esac → Moves (tag.Cases ∷ [], tag.Compound ∷ []) frames.old frames.new result }
 {
     if sign.kind != Kind::Esac {
         return Err(frames.opened.stray());

@@ -1,5 +1,13 @@
 //! Parameters in braces, and subscripts.
-ghost use Rattle.std.specs.Prelude.{◌≡◌};
+ghost use Rattle.ksh_lexer.specs.declared.kind.Form.{Form};
+ghost use Rattle.ksh_lexer.specs.declared.kind.TokenKind.TheVariants as token;
+ghost use Rattle.ksh_syntax.specs.declared.kind.Kind.TheVariants as kind;
+ghost use Rattle.tree_build.specs.Fits.{Moves, TakesTwo};
+ghost use Rattle.tree_build.specs.Tables.{is_special, opens_bracket};
+ghost use Rattle.tree_moves.specs.Tags as tag;
+ghost use Rattle.tree_parts.specs.Literals.{from_place};
+ghost use Rattle.tree_parts.specs.Parts.{is_name};
+ghost use Rattle.std.specs.Prelude.{◌≡◌, Bool, [], true, ℕ, ◌∷◌};
 ghost use Rattle.tree_build.specs.Frames.{Grows};
 ghost use Rattle.tree_build.specs.Heard.{Lexed, Marked};
 ghost use Rattle.ksh_syntax.specs.declared.part.Mark.TheVariants.{SubscriptEnds};
@@ -16,7 +24,7 @@ use ksh_base::{Items, Text};
 use ksh_lexer::TokenKind;
 use ksh_syntax::Kind;
 use std::alloc::Global;
-use tree_parts::{Asked, Moment, Sign, from_place, name_of, quotes};
+use tree_parts::{Asked, Moment, Sign, from_place, name_of, prefix_of, quotes};
 
 /// `[*]` or `[@]`
 fn all_items(joined: bool) -> TreePart
@@ -30,9 +38,10 @@ fn all_items(joined: bool) -> TreePart
 }
 
 /// `${`
-#[tactic(auto, using(crate::proofs::Texting::reads_opens_braces, crate::proofs::Onto::braces_on))]
+#[tactic(auto, using(crate::proofs::Texting::reads_opens_braces, crate::proofs::Onto::braces_on, crate::proofs::MovingS::opens_braces))]
 pub fn open_braces(frames: &mut Frames, sign: Sign, bytes: &[u8]) -> Result<(), Unbuilt>
-    ensures { Grows (Lexed sign bytes.now) frames.old frames.new result }
+    ensures grows { Grows (Lexed sign bytes.now) frames.old frames.new result }
+    ensures moves { sign.kind ≡ kind.OpenParameter → Moves ([], tag.BracesValue ∷ []) frames.old frames.new result }
 {
     if sign.kind != Kind::OpenParameter {
         return Err(frames.opened.stray());
@@ -43,9 +52,11 @@ pub fn open_braces(frames: &mut Frames, sign: Sign, bytes: &[u8]) -> Result<(), 
 }
 
 /// The `#` or `!` before a parameter's name.
-#[tactic(auto, using(crate::proofs::Bracing::reads_length_of, crate::proofs::Bracing::reads_target_of, crate::proofs::Onto::braces_on, crate::proofs::Onto::braces_loaded))]
+#[tactic(auto, using(crate::proofs::Bracing::reads_length_of, crate::proofs::Bracing::reads_target_of, crate::proofs::Onto::braces_on, crate::proofs::Onto::braces_loaded, crate::proofs::MovingS::asks_length, crate::proofs::MovingS::asks_target))]
 pub fn ask_parameter(frames: &mut Frames, sign: Sign, bytes: &[u8]) -> Result<(), Unbuilt>
-    ensures { Grows (Lexed sign bytes.now) frames.old frames.new result }
+    ensures grows { Grows (Lexed sign bytes.now) frames.old frames.new result }
+    ensures moves_length { sign.kind ≡ kind.Length → Moves (tag.BracesValue ∷ [], tag.BracesLength ∷ []) frames.old frames.new result }
+    ensures moves_target { sign.kind ≡ kind.Target → Moves (tag.BracesValue ∷ [], tag.BracesTarget ∷ []) frames.old frames.new result }
 {
     let Some(Open::Opened(Opening::Braces(quoted, Asked::Value))) = frames.opened.pop() else {
         return Err(frames.opened.stray());
@@ -73,7 +84,10 @@ pub fn name_parameter(
     sign: Sign,
     bytes: &[u8],
 ) -> Result<(), Unbuilt>
-    ensures { Grows (Lexed sign bytes.now) frames.old frames.new result }
+    ensures grows { Grows (Lexed sign bytes.now) frames.old frames.new result }
+    ensures moves_value { sign.kind ≡ kind.Name → is_name bytes.now ≡ true → Moves (tag.BracesValue ∷ [], tag.ParameterPath ∷ []) frames.old frames.new result }
+    ensures moves_length { sign.kind ≡ kind.Name → is_name bytes.now ≡ true → Moves (tag.BracesLength ∷ [], tag.AskedPath ∷ []) frames.old frames.new result }
+    ensures moves_target { sign.kind ≡ kind.Name → is_name bytes.now ≡ true → Moves (tag.BracesTarget ∷ [], tag.TargetPath ∷ []) frames.old frames.new result }
 {
     if sign.kind != Kind::Name {
         return Err(frames.opened.stray());
@@ -95,14 +109,16 @@ pub fn name_parameter(
 }
 
 /// A positional or special parameter.
-#[tactic(auto, using(crate::proofs::Bracing::reads_special, crate::proofs::Onto::braces_on, crate::proofs::Onto::parameter_on, crate::proofs::Onto::braces_loaded))]
+#[tactic(auto, using(crate::proofs::Bracing::reads_special, crate::proofs::Onto::braces_on, crate::proofs::Onto::parameter_on, crate::proofs::Onto::braces_loaded, crate::proofs::MovingS::special_value, crate::proofs::MovingS::special_length))]
 pub fn special_parameter(
     frames: &mut Frames,
     alloc: Global,
     sign: Sign,
     bytes: &[u8],
 ) -> Result<(), Unbuilt>
-    ensures { Grows (Lexed sign bytes.now) frames.old frames.new result }
+    ensures grows { Grows (Lexed sign bytes.now) frames.old frames.new result }
+    ensures moves_value { is_special sign.kind ≡ true → Moves (tag.BracesValue ∷ [], tag.ParameterOther ∷ []) frames.old frames.new result }
+    ensures moves_length { is_special sign.kind ≡ true → Moves (tag.BracesLength ∷ [], tag.AskedOther ∷ []) frames.old frames.new result }
 {
     if !is_special(sign.kind) {
         return Err(frames.opened.stray());
@@ -118,14 +134,17 @@ pub fn special_parameter(
 }
 
 /// `.name` behind a parameter's path.
-#[tactic(auto, using(crate::proofs::Bracing::reads_member, crate::proofs::Onto::parameter_on, crate::proofs::Onto::parameter_loaded))]
+#[tactic(auto, using(crate::proofs::Bracing::reads_member, crate::proofs::Onto::parameter_on, crate::proofs::Onto::parameter_loaded, crate::proofs::MovingS::value_goes_on, crate::proofs::MovingS::asked_goes_on, crate::proofs::MovingS::target_goes_on))]
 fn add_path_member(
     frames: &mut Frames,
     alloc: Global,
     sign: Sign,
     bytes: &[u8],
 ) -> Result<(), Unbuilt>
-    ensures { Grows (Lexed sign bytes.now) frames.old frames.new result }
+    ensures grows { Grows (Lexed sign bytes.now) frames.old frames.new result }
+    ensures moves_value { (at : ℕ) → sign.token ≡ token.Member at → is_name (from_place sign at bytes.now) ≡ true → Moves (tag.ParameterPath ∷ [], tag.ParameterPath ∷ []) frames.old frames.new result }
+    ensures moves_asked { (at : ℕ) → sign.token ≡ token.Member at → is_name (from_place sign at bytes.now) ≡ true → Moves (tag.AskedPath ∷ [], tag.AskedPath ∷ []) frames.old frames.new result }
+    ensures moves_target { (at : ℕ) → sign.token ≡ token.Member at → is_name (from_place sign at bytes.now) ≡ true → Moves (tag.TargetPath ∷ [], tag.TargetPath ∷ []) frames.old frames.new result }
 {
     let TokenKind::Member(at) = sign.token else {
         return Err(frames.opened.stray());
@@ -149,14 +168,15 @@ fn add_path_member(
 }
 
 /// `.name` behind the path of an assignment.
-#[tactic(auto, using(crate::proofs::Wording::reads_element_member, crate::proofs::Onto::target_on, crate::proofs::Onto::target_loaded))]
+#[tactic(auto, using(crate::proofs::Wording::reads_element_member, crate::proofs::Onto::target_on, crate::proofs::Onto::target_loaded, crate::proofs::MovingS::element_goes_on))]
 fn add_element_member(
     frames: &mut Frames,
     alloc: Global,
     sign: Sign,
     bytes: &[u8],
 ) -> Result<(), Unbuilt>
-    ensures { Grows (Lexed sign bytes.now) frames.old frames.new result }
+    ensures grows { Grows (Lexed sign bytes.now) frames.old frames.new result }
+    ensures moves { (at : ℕ) → sign.token ≡ token.Member at → is_name (from_place sign at bytes.now) ≡ true → Moves (tag.Target ∷ [], tag.Target ∷ []) frames.old frames.new result }
 {
     let TokenKind::Member(at) = sign.token else {
         return Err(frames.opened.stray());
@@ -179,13 +199,18 @@ fn add_element_member(
 }
 
 /// `.name` behind a path.
+#[tactic(auto, using(crate::proofs::MovingS::value_not_target, crate::proofs::MovingS::asked_not_target, crate::proofs::MovingS::target_not_target, crate::proofs::MovingS::element_not_other))]
 pub fn add_member(
     frames: &mut Frames,
     alloc: Global,
     sign: Sign,
     bytes: &[u8],
 ) -> Result<(), Unbuilt>
-    ensures { Grows (Lexed sign bytes.now) frames.old frames.new result }
+    ensures grows { Grows (Lexed sign bytes.now) frames.old frames.new result }
+    ensures moves_value { (at : ℕ) → sign.token ≡ token.Member at → is_name (from_place sign at bytes.now) ≡ true → Moves (tag.ParameterPath ∷ [], tag.ParameterPath ∷ []) frames.old frames.new result }
+    ensures moves_asked { (at : ℕ) → sign.token ≡ token.Member at → is_name (from_place sign at bytes.now) ≡ true → Moves (tag.AskedPath ∷ [], tag.AskedPath ∷ []) frames.old frames.new result }
+    ensures moves_target { (at : ℕ) → sign.token ≡ token.Member at → is_name (from_place sign at bytes.now) ≡ true → Moves (tag.TargetPath ∷ [], tag.TargetPath ∷ []) frames.old frames.new result }
+    ensures moves_element { (at : ℕ) → sign.token ≡ token.Member at → is_name (from_place sign at bytes.now) ≡ true → Moves (tag.Target ∷ [], tag.Target ∷ []) frames.old frames.new result }
 {
     match frames.at(0) {
         Place::Target => add_element_member(frames, alloc, sign, bytes),
@@ -194,9 +219,12 @@ pub fn add_member(
 }
 
 /// `[@]` or `[*]`
-#[tactic(auto, using(crate::proofs::Bracing::reads_all_items, crate::proofs::Onto::parameter_on, crate::proofs::Onto::parameter_loaded))]
+#[tactic(auto, using(crate::proofs::Bracing::reads_all_items, crate::proofs::Onto::parameter_on, crate::proofs::Onto::parameter_loaded, crate::proofs::MovingS::value_goes_on, crate::proofs::MovingS::asked_goes_on, crate::proofs::MovingS::target_goes_on))]
 pub fn add_all_items(frames: &mut Frames, sign: Sign, bytes: &[u8]) -> Result<(), Unbuilt>
-    ensures { Grows (Lexed sign bytes.now) frames.old frames.new result }
+    ensures grows { Grows (Lexed sign bytes.now) frames.old frames.new result }
+    ensures moves_value { (joined : Bool) → sign.token ≡ token.Items joined → Moves (tag.ParameterPath ∷ [], tag.ParameterPath ∷ []) frames.old frames.new result }
+    ensures moves_asked { (joined : Bool) → sign.token ≡ token.Items joined → Moves (tag.AskedPath ∷ [], tag.AskedPath ∷ []) frames.old frames.new result }
+    ensures moves_target { (joined : Bool) → sign.token ≡ token.Items joined → Moves (tag.TargetPath ∷ [], tag.TargetPath ∷ []) frames.old frames.new result }
 {
     let TokenKind::Items { joined } = sign.token else {
         return Err(frames.opened.stray());
@@ -224,7 +252,8 @@ pub fn take_prefix(
     sign: Sign,
     bytes: &[u8],
 ) -> Result<(), Unbuilt>
-    ensures { Grows (Lexed sign bytes.now) frames.old frames.new result }
+    ensures grows { Grows (Lexed sign bytes.now) frames.old frames.new result }
+    ensures moves { sign.kind ≡ kind.Prefix → Moves (tag.TargetPath ∷ [], tag.ParameterOther ∷ []) frames.old frames.new result }
 {
     if sign.kind != Kind::Prefix {
         return Err(frames.opened.stray());
@@ -235,10 +264,7 @@ pub fn take_prefix(
     let Some(ParamOf::Var(path)) = frames.texts.params.pop() else {
         return Err(frames.opened.stray());
     };
-    if !path.parts.is_empty() {
-        return Err(frames.opened.stray());
-    }
-    let Ok(front) = path.name.text().copy(alloc) else {
+    let Ok(front) = prefix_of(alloc, path) else {
         return Err(frames.opened.lost());
     };
     let ready = frames.texts.params.push(ParamOf::Prefix(front));
@@ -247,9 +273,11 @@ pub fn take_prefix(
     Ok(())
 }
 
-#[tactic(auto, using(crate::proofs::Bracing::reads_with_form, crate::proofs::Onto::parameter_on, crate::proofs::Onto::formed_on, crate::proofs::Onto::parameter_loaded))]
+#[tactic(auto, using(crate::proofs::Bracing::reads_with_form, crate::proofs::Onto::parameter_on, crate::proofs::Onto::formed_on, crate::proofs::Onto::parameter_loaded, crate::proofs::MovingS::formed_once, crate::proofs::MovingS::formed_twice))]
 fn open_form(frames: &mut Frames, sign: Sign, bytes: &[u8]) -> Result<(), Unbuilt>
-    ensures { Grows (Lexed sign bytes.now) frames.old frames.new result }
+    ensures grows { Grows (Lexed sign bytes.now) frames.old frames.new result }
+    ensures moves_once { (f : Form) → sign.token ≡ token.Form f → Moves (tag.ParameterOther ∷ [], tag.FormedOnce ∷ []) frames.old frames.new result }
+    ensures moves_twice { (f : Form) → sign.token ≡ token.Form f → TakesTwo f → Moves (tag.ParameterOther ∷ [], tag.FormedTwice ∷ []) frames.old frames.new result }
 {
     let TokenKind::Form(form) = sign.token else {
         return Err(frames.opened.stray());
@@ -264,14 +292,16 @@ fn open_form(frames: &mut Frames, sign: Sign, bytes: &[u8]) -> Result<(), Unbuil
 }
 
 /// What is made of a parameter, before its text.
-#[tactic(auto, using(crate::proofs::Steps::grows_stays))]
+#[tactic(auto, using(crate::proofs::Steps::grows_stays, crate::proofs::MovingQ::first_fails))]
 pub fn begin_form(
     frames: &mut Frames,
     alloc: Global,
     sign: Sign,
     bytes: &[u8],
 ) -> Result<(), Unbuilt>
-    ensures { Grows (Lexed sign bytes.now) frames.old frames.new result }
+    ensures grows { Grows (Lexed sign bytes.now) frames.old frames.new result }
+    ensures moves_once { (f : Form) → sign.token ≡ token.Form f → Moves (tag.ParameterOther ∷ [], tag.Text ∷ tag.FormedOnce ∷ []) frames.old frames.new result }
+    ensures moves_twice { (f : Form) → sign.token ≡ token.Form f → TakesTwo f → Moves (tag.ParameterOther ∷ [], tag.Text ∷ tag.FormedTwice ∷ []) frames.old frames.new result }
 {
     open_form(frames, sign, bytes)?;
     open_text(frames, alloc)
@@ -279,7 +309,8 @@ pub fn begin_form(
 
 #[tactic(auto, using(crate::proofs::Onto::text_loaded, crate::proofs::Onto::formed_loaded))]
 fn end_first_text(frames: &mut Frames, sign: Sign, bytes: &[u8]) -> Result<(), Unbuilt>
-    ensures { Grows (Lexed sign bytes.now) frames.old frames.new result }
+    ensures grows { Grows (Lexed sign bytes.now) frames.old frames.new result }
+    ensures moves { sign.kind ≡ kind.Separator → Moves (tag.Text ∷ tag.FormedTwice ∷ [], tag.FormedLast ∷ []) frames.old frames.new result }
 {
     if sign.kind != Kind::Separator {
         return Err(frames.opened.stray());
@@ -303,22 +334,24 @@ fn end_first_text(frames: &mut Frames, sign: Sign, bytes: &[u8]) -> Result<(), U
 }
 
 /// What parts the two texts of a form.
-#[tactic(auto, using(crate::proofs::Steps::grows_stays))]
+#[tactic(auto, using(crate::proofs::Steps::grows_stays, crate::proofs::MovingQ::first_fails))]
 pub fn part_form(
     frames: &mut Frames,
     alloc: Global,
     sign: Sign,
     bytes: &[u8],
 ) -> Result<(), Unbuilt>
-    ensures { Grows (Lexed sign bytes.now) frames.old frames.new result }
+    ensures grows { Grows (Lexed sign bytes.now) frames.old frames.new result }
+    ensures moves { sign.kind ≡ kind.Separator → Moves (tag.Text ∷ tag.FormedTwice ∷ [], tag.Text ∷ tag.FormedLast ∷ []) frames.old frames.new result }
 {
     end_first_text(frames, sign, bytes)?;
     open_text(frames, alloc)
 }
 
-#[tactic(auto, using(crate::proofs::Bracing::reads_opens_subscript, crate::proofs::Onto::bracket_on))]
+#[tactic(auto, using(crate::proofs::Bracing::reads_opens_subscript, crate::proofs::Onto::bracket_on, crate::proofs::MovingS::opens_bracket))]
 fn open_bracket(frames: &mut Frames, sign: Sign, bytes: &[u8]) -> Result<(), Unbuilt>
-    ensures { Grows (Lexed sign bytes.now) frames.old frames.new result }
+    ensures grows { Grows (Lexed sign bytes.now) frames.old frames.new result }
+    ensures moves { opens_bracket sign.kind ≡ true → Moves ([], tag.Bracket ∷ []) frames.old frames.new result }
 {
     if !opens_bracket(sign.kind) {
         return Err(frames.opened.stray());
@@ -329,14 +362,15 @@ fn open_bracket(frames: &mut Frames, sign: Sign, bytes: &[u8]) -> Result<(), Unb
 }
 
 /// The `[` of a subscript, or of a pair's key.
-#[tactic(auto, using(crate::proofs::Steps::grows_stays))]
+#[tactic(auto, using(crate::proofs::Steps::grows_stays, crate::proofs::MovingQ::first_fails))]
 pub fn begin_subscript(
     frames: &mut Frames,
     alloc: Global,
     sign: Sign,
     bytes: &[u8],
 ) -> Result<(), Unbuilt>
-    ensures { Grows (Lexed sign bytes.now) frames.old frames.new result }
+    ensures grows { Grows (Lexed sign bytes.now) frames.old frames.new result }
+    ensures moves { opens_bracket sign.kind ≡ true → Moves ([], tag.Text ∷ tag.Bracket ∷ []) frames.old frames.new result }
 {
     open_bracket(frames, sign, bytes)?;
     open_text(frames, alloc)
@@ -345,7 +379,8 @@ pub fn begin_subscript(
 /// The text of a subscript ends.
 #[tactic(auto, using(crate::proofs::Onto::text_loaded, crate::proofs::Onto::bracket_loaded))]
 pub fn end_subscript(frames: &mut Frames, moment: Moment) -> Result<(), Unbuilt>
-    ensures { Grows (Marked SubscriptEnds moment) frames.old frames.new result }
+    ensures grows { Grows (Marked SubscriptEnds moment) frames.old frames.new result }
+    ensures moves { Moves (tag.Text ∷ tag.Bracket ∷ [], tag.Subscript ∷ []) frames.old frames.new result }
 {
     let Some(Open::Text) = frames.opened.pop() else {
         return Err(frames.opened.stray());
@@ -360,7 +395,10 @@ pub fn end_subscript(frames: &mut Frames, moment: Moment) -> Result<(), Unbuilt>
 /// The `]` of a subscript of a parameter.
 #[tactic(auto, using(crate::proofs::Onto::subscript_loaded, crate::proofs::Onto::parameter_loaded))]
 fn close_path_subscript(frames: &mut Frames, sign: Sign, bytes: &[u8]) -> Result<(), Unbuilt>
-    ensures { Grows (Lexed sign bytes.now) frames.old frames.new result }
+    ensures grows { Grows (Lexed sign bytes.now) frames.old frames.new result }
+    ensures moves_value { sign.kind ≡ kind.Close → Moves (tag.Subscript ∷ tag.ParameterPath ∷ [], tag.ParameterPath ∷ []) frames.old frames.new result }
+    ensures moves_asked { sign.kind ≡ kind.Close → Moves (tag.Subscript ∷ tag.AskedPath ∷ [], tag.AskedPath ∷ []) frames.old frames.new result }
+    ensures moves_target { sign.kind ≡ kind.Close → Moves (tag.Subscript ∷ tag.TargetPath ∷ [], tag.TargetPath ∷ []) frames.old frames.new result }
 {
     if sign.kind != Kind::Close {
         return Err(frames.opened.stray());
@@ -389,7 +427,8 @@ fn close_path_subscript(frames: &mut Frames, sign: Sign, bytes: &[u8]) -> Result
 /// The `]` of a subscript of an assignment.
 #[tactic(auto, using(crate::proofs::Onto::subscript_loaded, crate::proofs::Onto::target_loaded))]
 fn close_element_subscript(frames: &mut Frames, sign: Sign, bytes: &[u8]) -> Result<(), Unbuilt>
-    ensures { Grows (Lexed sign bytes.now) frames.old frames.new result }
+    ensures grows { Grows (Lexed sign bytes.now) frames.old frames.new result }
+    ensures moves { sign.kind ≡ kind.Close → Moves (tag.Subscript ∷ tag.Target ∷ [], tag.Target ∷ []) frames.old frames.new result }
 {
     if sign.kind != Kind::Close {
         return Err(frames.opened.stray());
@@ -415,8 +454,13 @@ fn close_element_subscript(frames: &mut Frames, sign: Sign, bytes: &[u8]) -> Res
 }
 
 /// The `]` of a subscript.
+#[tactic(auto, using(crate::proofs::MovingS::value_not_target_below, crate::proofs::MovingS::asked_not_target_below, crate::proofs::MovingS::target_not_target_below, crate::proofs::MovingS::element_not_other_below))]
 pub fn close_subscript(frames: &mut Frames, sign: Sign, bytes: &[u8]) -> Result<(), Unbuilt>
-    ensures { Grows (Lexed sign bytes.now) frames.old frames.new result }
+    ensures grows { Grows (Lexed sign bytes.now) frames.old frames.new result }
+    ensures moves_value { sign.kind ≡ kind.Close → Moves (tag.Subscript ∷ tag.ParameterPath ∷ [], tag.ParameterPath ∷ []) frames.old frames.new result }
+    ensures moves_asked { sign.kind ≡ kind.Close → Moves (tag.Subscript ∷ tag.AskedPath ∷ [], tag.AskedPath ∷ []) frames.old frames.new result }
+    ensures moves_target { sign.kind ≡ kind.Close → Moves (tag.Subscript ∷ tag.TargetPath ∷ [], tag.TargetPath ∷ []) frames.old frames.new result }
+    ensures moves_element { sign.kind ≡ kind.Close → Moves (tag.Subscript ∷ tag.Target ∷ [], tag.Target ∷ []) frames.old frames.new result }
 {
     match frames.at(1) {
         Place::Target => close_element_subscript(frames, sign, bytes),
@@ -425,9 +469,10 @@ pub fn close_subscript(frames: &mut Frames, sign: Sign, bytes: &[u8]) -> Result<
 }
 
 /// The `]` of a pair's key.
-#[tactic(auto, using(crate::proofs::Defining::reads_key, crate::proofs::Onto::subscript_on, crate::proofs::Onto::keyed_on, crate::proofs::Onto::subscript_loaded))]
+#[tactic(auto, using(crate::proofs::Defining::reads_key, crate::proofs::Onto::subscript_on, crate::proofs::Onto::keyed_on, crate::proofs::Onto::subscript_loaded, crate::proofs::MovingS::keys))]
 pub fn close_key(frames: &mut Frames, sign: Sign, bytes: &[u8]) -> Result<(), Unbuilt>
-    ensures { Grows (Lexed sign bytes.now) frames.old frames.new result }
+    ensures grows { Grows (Lexed sign bytes.now) frames.old frames.new result }
+    ensures moves { sign.kind ≡ kind.Close → Moves (tag.Subscript ∷ [], tag.Keyed ∷ []) frames.old frames.new result }
 {
     if sign.kind != Kind::Close {
         return Err(frames.opened.stray());

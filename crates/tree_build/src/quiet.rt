@@ -1,5 +1,9 @@
 //! What says nothing of the tree.
-ghost use Rattle.std.specs.Prelude.{◌≡◌};
+ghost use Rattle.tree_build.specs.Fits.{Moves};
+ghost use Rattle.tree_build.specs.Places.{place_at};
+ghost use Rattle.tree_build.specs.Tables.{is_silent_mark};
+ghost use Rattle.tree_build.specs.declared.place.Place.TheVariants as place;
+ghost use Rattle.std.specs.Prelude.{◌≡◌, [], true};
 ghost use Rattle.tree_build.specs.Frames.{Grows};
 ghost use Rattle.tree_build.specs.Heard.{Lexed, Marked};
 ghost use Rattle.tree_build.specs.Silent.{is_silent, passes_newlines};
@@ -50,9 +54,10 @@ fn is_silent(kind: Kind, place: Place) -> bool
 }
 
 /// Passes over a token.
-#[tactic(auto, using(crate::proofs::Passing::reads_silent))]
+#[tactic(auto, using(crate::proofs::Passing::reads_silent, crate::proofs::MovingP::stays_fit))]
 pub fn pass_token(frames: &mut Frames, sign: Sign, bytes: &[u8]) -> Result<(), Unbuilt>
-    ensures { Grows (Lexed sign bytes.now) frames.old frames.new result }
+    ensures grows { Grows (Lexed sign bytes.now) frames.old frames.new result }
+    ensures moves { is_silent sign.kind (place_at frames.old 0) ≡ true → (place_at frames.old 0 ≡ place.Nothing → ⊥) → Moves ([], []) frames.old frames.new result }
 {
     match frames.at(0) {
         Place::Nothing => Err(Unbuilt::Stray),
@@ -66,9 +71,10 @@ pub fn pass_token(frames: &mut Frames, sign: Sign, bytes: &[u8]) -> Result<(), U
 }
 
 /// Passes over a mark.
-#[tactic(auto, using(crate::proofs::Passing::reads_silent_mark))]
+#[tactic(auto, using(crate::proofs::Passing::reads_silent_mark, crate::proofs::MovingP::stays_fit))]
 pub fn pass_mark(frames: &mut Frames, mark: Mark, moment: Moment) -> Result<(), Unbuilt>
-    ensures { Grows (Marked mark moment) frames.old frames.new result }
+    ensures grows { Grows (Marked mark moment) frames.old frames.new result }
+    ensures moves { is_silent_mark mark ≡ true → (place_at frames.old 0 ≡ place.Nothing → ⊥) → Moves ([], []) frames.old frames.new result }
 {
     match frames.at(0) {
         Place::Nothing => Err(Unbuilt::Stray),

@@ -36,7 +36,7 @@ impl<T: Drop> Stack<T> {
     }
 
     pub(crate) fn is_empty(&self) -> bool
-        ensures { result ≡ true → self.now ≡ [] }
+        ensures { IsTrue result ↔ (self.now ≡ []) }
     {
         self.items.is_empty()
     }
@@ -76,14 +76,14 @@ impl<T: Drop + Copy> Stack<T> {
     }
 
     /// Opens a frame whose parts were pushed; where those were not, or it is not, nothing is open any more.
-    pub(crate) fn push_after(&mut self, ready: Result<(), Memory>, what: T) -> Result<(), Memory>
-        ensures { MatchResult result (λ u. (ready ≡ Ok u) × (self.new ≡ what ∷ self.old)) (λ e. self.new ≡ []) }
+    pub(crate) fn push_after(&mut self, ready: Result<(), Memory>, what: T) -> Result<(), Unbuilt>
+        ensures { MatchResult result (λ u. (ready ≡ Ok u) × (self.new ≡ what ∷ self.old)) (λ e. (e ≡ unbuilt.Memory) × (self.new ≡ [])) }
     {
         if ready.is_ok() && self.items.push(what).is_ok() {
             return Ok(());
         }
         self.clear();
-        Err(Memory)
+        Err(Unbuilt::Memory)
     }
 
     /// What comes belongs to no tree: nothing is open any more.
@@ -100,17 +100,6 @@ impl<T: Drop + Copy> Stack<T> {
     {
         self.clear();
         Unbuilt::Memory
-    }
-
-    /// Keeps what is open where a part was ready; else nothing is open any more.
-    pub(crate) fn keep_after(&mut self, ready: Result<(), Memory>) -> Result<(), Memory>
-        ensures { MatchResult result (λ u. (ready ≡ Ok u) × (self.new ≡ self.old)) (λ e. self.new ≡ []) }
-    {
-        if ready.is_ok() {
-            return Ok(());
-        }
-        self.clear();
-        Err(Memory)
     }
 }
 

@@ -1,4 +1,13 @@
 //! Pieces of texts.
+ghost use Rattle.ksh_ast.specs.declared.kinds.SubstKind.TheVariants as subst;
+ghost use Rattle.ksh_lexer.specs.declared.kind.TokenKind.TheVariants as token;
+ghost use Rattle.ksh_syntax.specs.declared.kind.Kind.TheVariants as kind;
+ghost use Rattle.std.specs.Prelude.{None, Some, [], true, ℕ, ◌∷◌, ◌≡◌};
+ghost use Rattle.tree_build.specs.Fits.{Moves};
+ghost use Rattle.tree_build.specs.Tables.{closes};
+ghost use Rattle.tree_moves.specs.Tags as tag;
+ghost use Rattle.tree_parts.specs.Literals.{from_place, literal_of};
+ghost use Rattle.tree_parts.specs.Parts.{is_param, opens_list};
 ghost use Rattle.tree_build.specs.Frames.{Grows, Stays};
 ghost use Rattle.tree_build.specs.Heard.{Lexed};
 
@@ -18,9 +27,10 @@ use tree_parts::{
 };
 
 /// A text begins.
-#[tactic(auto, using(crate::proofs::Texting::reads_no_piece, crate::proofs::Onto::text_on))]
+#[tactic(auto, using(crate::proofs::Texting::reads_no_piece, crate::proofs::Onto::text_on, crate::proofs::MovingS::opens_text))]
 pub fn open_text(frames: &mut Frames, alloc: Global) -> Result<(), Unbuilt>
-    ensures { Stays frames.old frames.new result }
+    ensures stays { Stays frames.old frames.new result }
+    ensures moves { Moves ([], tag.Text ∷ []) frames.old frames.new result }
 {
     let ready = frames.texts.words.push(Items::new(alloc));
     frames.opened.push_after(ready, Open::Text)?;
@@ -35,7 +45,8 @@ pub fn hear_literal(
     sign: Sign,
     bytes: &[u8],
 ) -> Result<(), Unbuilt>
-    ensures { Grows (Lexed sign bytes.now) frames.old frames.new result }
+    ensures grows { Grows (Lexed sign bytes.now) frames.old frames.new result }
+    ensures moves { (literal_of sign bytes.now ≡ None → ⊥) → Moves (tag.Text ∷ [], tag.Text ∷ []) frames.old frames.new result }
 {
     let Some(Open::Text) = frames.opened.pop() else {
         return Err(frames.opened.stray());
@@ -62,7 +73,8 @@ pub fn hear_expansion(
     sign: Sign,
     bytes: &[u8],
 ) -> Result<(), Unbuilt>
-    ensures { Grows (Lexed sign bytes.now) frames.old frames.new result }
+    ensures grows { Grows (Lexed sign bytes.now) frames.old frames.new result }
+    ensures moves { (at : ℕ) → sign.token ≡ token.Expand at → is_param (from_place sign at bytes.now) ≡ true → Moves (tag.Text ∷ [], tag.Text ∷ []) frames.old frames.new result }
 {
     let TokenKind::Expand(at) = sign.token else {
         return Err(frames.opened.stray());
@@ -86,7 +98,8 @@ pub fn hear_expansion(
 /// The `}` behind a parameter without a form.
 #[tactic(auto, using(crate::proofs::Onto::parameter_loaded, crate::proofs::Onto::text_loaded))]
 pub fn close_plain(frames: &mut Frames, sign: Sign, bytes: &[u8]) -> Result<(), Unbuilt>
-    ensures { Grows (Lexed sign bytes.now) frames.old frames.new result }
+    ensures grows { Grows (Lexed sign bytes.now) frames.old frames.new result }
+    ensures moves { sign.kind ≡ kind.Close → Moves (tag.AskedOther ∷ tag.Text ∷ [], tag.Text ∷ []) frames.old frames.new result }
 {
     if sign.kind != Kind::Close {
         return Err(frames.opened.stray());
@@ -115,7 +128,8 @@ pub fn close_formed(
     sign: Sign,
     bytes: &[u8],
 ) -> Result<(), Unbuilt>
-    ensures { Grows (Lexed sign bytes.now) frames.old frames.new result }
+    ensures grows { Grows (Lexed sign bytes.now) frames.old frames.new result }
+    ensures moves { sign.kind ≡ kind.Close → Moves (tag.Text ∷ tag.FormedLast ∷ tag.Text ∷ [], tag.Text ∷ []) frames.old frames.new result }
 {
     if sign.kind != Kind::Close {
         return Err(frames.opened.stray());
@@ -147,9 +161,11 @@ pub fn close_formed(
     Ok(())
 }
 
-#[tactic(auto, using(crate::proofs::Texting::reads_opens_substitution, crate::proofs::Onto::substitution_on))]
+#[tactic(auto, using(crate::proofs::Texting::reads_opens_substitution, crate::proofs::Onto::substitution_on, crate::proofs::MovingS::opens_fork, crate::proofs::MovingS::opens_current))]
 fn open_substitution(frames: &mut Frames, sign: Sign, bytes: &[u8]) -> Result<(), Unbuilt>
-    ensures { Grows (Lexed sign bytes.now) frames.old frames.new result }
+    ensures grows { Grows (Lexed sign bytes.now) frames.old frames.new result }
+    ensures moves_fork { opens_list sign.kind ≡ Some subst.Fork → Moves ([], tag.SubstitutionFork ∷ []) frames.old frames.new result }
+    ensures moves_current { opens_list sign.kind ≡ Some subst.Current → Moves ([], tag.SubstitutionCurrent ∷ []) frames.old frames.new result }
 {
     let Some(kind) = opens_list(sign.kind) else {
         return Err(frames.opened.stray());
@@ -160,14 +176,16 @@ fn open_substitution(frames: &mut Frames, sign: Sign, bytes: &[u8]) -> Result<()
 }
 
 /// What opens a substitution.
-#[tactic(auto, using(crate::proofs::Steps::grows_stays))]
+#[tactic(auto, using(crate::proofs::Steps::grows_stays, crate::proofs::MovingQ::first_fails))]
 pub fn begin_substitution(
     frames: &mut Frames,
     alloc: Global,
     sign: Sign,
     bytes: &[u8],
 ) -> Result<(), Unbuilt>
-    ensures { Grows (Lexed sign bytes.now) frames.old frames.new result }
+    ensures grows { Grows (Lexed sign bytes.now) frames.old frames.new result }
+    ensures moves_fork { opens_list sign.kind ≡ Some subst.Fork → Moves ([], tag.Lines ∷ tag.SubstitutionFork ∷ []) frames.old frames.new result }
+    ensures moves_current { opens_list sign.kind ≡ Some subst.Current → Moves ([], tag.Lines ∷ tag.SubstitutionCurrent ∷ []) frames.old frames.new result }
 {
     open_substitution(frames, sign, bytes)?;
     open_list(frames, alloc)
@@ -176,7 +194,9 @@ pub fn begin_substitution(
 /// What closes a substitution.
 #[tactic(auto, using(crate::proofs::Onto::listed_loaded, crate::proofs::Onto::substitution_loaded, crate::proofs::Onto::text_loaded))]
 pub fn close_substitution(frames: &mut Frames, sign: Sign, bytes: &[u8]) -> Result<(), Unbuilt>
-    ensures { Grows (Lexed sign bytes.now) frames.old frames.new result }
+    ensures grows { Grows (Lexed sign bytes.now) frames.old frames.new result }
+    ensures moves_fork { closes subst.Fork sign.kind ≡ true → Moves (tag.Listed ∷ tag.SubstitutionFork ∷ tag.Text ∷ [], tag.Text ∷ []) frames.old frames.new result }
+    ensures moves_current { closes subst.Current sign.kind ≡ true → Moves (tag.Listed ∷ tag.SubstitutionCurrent ∷ tag.Text ∷ [], tag.Text ∷ []) frames.old frames.new result }
 {
     let Some(Open::Listed) = frames.opened.pop() else {
         return Err(frames.opened.stray());
@@ -199,9 +219,10 @@ pub fn close_substitution(frames: &mut Frames, sign: Sign, bytes: &[u8]) -> Resu
     Ok(())
 }
 
-#[tactic(auto, using(crate::proofs::Texting::reads_opens_arithmetic, crate::proofs::Onto::arithmetic_on))]
+#[tactic(auto, using(crate::proofs::Texting::reads_opens_arithmetic, crate::proofs::Onto::arithmetic_on, crate::proofs::MovingS::opens_arithmetic))]
 fn open_arithmetic(frames: &mut Frames, sign: Sign, bytes: &[u8]) -> Result<(), Unbuilt>
-    ensures { Grows (Lexed sign bytes.now) frames.old frames.new result }
+    ensures grows { Grows (Lexed sign bytes.now) frames.old frames.new result }
+    ensures moves { sign.kind ≡ kind.OpenArithmetic → Moves ([], tag.Arithmetic ∷ []) frames.old frames.new result }
 {
     if sign.kind != Kind::OpenArithmetic {
         return Err(frames.opened.stray());
@@ -212,14 +233,15 @@ fn open_arithmetic(frames: &mut Frames, sign: Sign, bytes: &[u8]) -> Result<(), 
 }
 
 /// `$((`
-#[tactic(auto, using(crate::proofs::Steps::grows_stays))]
+#[tactic(auto, using(crate::proofs::Steps::grows_stays, crate::proofs::MovingQ::first_fails))]
 pub fn begin_arithmetic(
     frames: &mut Frames,
     alloc: Global,
     sign: Sign,
     bytes: &[u8],
 ) -> Result<(), Unbuilt>
-    ensures { Grows (Lexed sign bytes.now) frames.old frames.new result }
+    ensures grows { Grows (Lexed sign bytes.now) frames.old frames.new result }
+    ensures moves { sign.kind ≡ kind.OpenArithmetic → Moves ([], tag.Text ∷ tag.Arithmetic ∷ []) frames.old frames.new result }
 {
     open_arithmetic(frames, sign, bytes)?;
     open_text(frames, alloc)
@@ -233,7 +255,8 @@ pub fn close_number(
     sign: Sign,
     bytes: &[u8],
 ) -> Result<(), Unbuilt>
-    ensures { Grows (Lexed sign bytes.now) frames.old frames.new result }
+    ensures grows { Grows (Lexed sign bytes.now) frames.old frames.new result }
+    ensures moves { sign.kind ≡ kind.Close → Moves (tag.Text ∷ tag.Arithmetic ∷ tag.Text ∷ [], tag.Text ∷ []) frames.old frames.new result }
 {
     if sign.kind != Kind::Close {
         return Err(frames.opened.stray());
@@ -250,11 +273,8 @@ pub fn close_number(
     let Some(inside) = frames.texts.words.pop() else {
         unreachable!();
     };
-    let Ok(found) = arith_of(alloc, inside) else {
+    let Ok(text) = arith_of(alloc, inside) else {
         return Err(frames.opened.lost());
-    };
-    let Some(text) = found else {
-        return Err(frames.opened.stray());
     };
     let ready = frames.texts.words.add(Piece::Number { text, quoted });
     frames.opened.push_after(ready, Open::Text)?;

@@ -14,12 +14,22 @@ pub enum Unbuilt {
 }
 
 impl From<AllocError> for Unbuilt {
+    ghost use Rattle.std.specs.Prelude.{◌≡◌};
+    ghost use Rattle.tree_build.specs.declared.unbuilt.Unbuilt.TheVariants as unbuilt;
+
+    ghost from_gives = { λ _ e. e ≡ unbuilt.Memory };
+
     fn from(_refused: AllocError) -> Unbuilt {
         Unbuilt::Memory
     }
 }
 
 impl From<Memory> for Unbuilt {
+    ghost use Rattle.std.specs.Prelude.{◌≡◌};
+    ghost use Rattle.tree_build.specs.declared.unbuilt.Unbuilt.TheVariants as unbuilt;
+
+    ghost from_gives = { λ _ e. e ≡ unbuilt.Memory };
+
     fn from(_refused: Memory) -> Unbuilt {
         Unbuilt::Memory
     }

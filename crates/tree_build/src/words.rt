@@ -1,4 +1,12 @@
 //! Words, and where they belong.
+ghost use Rattle.ksh_ast.specs.declared.kinds.BinaryTest.{BinaryTest};
+ghost use Rattle.ksh_ast.specs.declared.kinds.UnaryTest.{UnaryTest};
+ghost use Rattle.ksh_syntax.specs.declared.kind.Kind.TheVariants as kind;
+ghost use Rattle.std.specs.Prelude.{Some, [], false, true, ◌∷◌, ◌≡◌};
+ghost use Rattle.tree_build.specs.Fits.{Moves};
+ghost use Rattle.tree_build.specs.Tables.{is_assignment, is_word};
+ghost use Rattle.tree_moves.specs.Tags as tag;
+ghost use Rattle.tree_parts.specs.Parts.{all_names, binary_test, names_of, unary_test};
 ghost use Rattle.tree_build.specs.Frames.{Grows, Stays, StaysIn};
 ghost use Rattle.tree_build.specs.Heard.{Lexed};
 
@@ -13,11 +21,13 @@ use ksh_ast::{Argument, Assign, AssignValue, Pair, Redirect};
 use ksh_lexer::end_word;
 use ksh_syntax::Kind;
 use std::alloc::Global;
-use tree_parts::{Entry, Sign, add_pieces, assignment_of, literal_word, path_word};
+use tree_parts::{Entry, Sign, add_pieces, assignment_of, is_assigned, literal_word, path_word};
 
-#[tactic(auto, using(crate::proofs::Wording::reads_word_starts, crate::proofs::Onto::word_start_on))]
+#[tactic(auto, using(crate::proofs::Wording::reads_word_starts, crate::proofs::Onto::word_start_on, crate::proofs::MovingQ::opens_plain_word, crate::proofs::MovingQ::opens_assignment_word))]
 fn open_word(frames: &mut Frames, sign: Sign, bytes: &[u8]) -> Result<(), Unbuilt>
-    ensures { Grows (Lexed sign bytes.now) frames.old frames.new result }
+    ensures grows { Grows (Lexed sign bytes.now) frames.old frames.new result }
+    ensures moves_plain { sign.kind ≡ kind.Start → Moves ([], tag.WordStart ∷ []) frames.old frames.new result }
+    ensures moves_assignment { sign.kind ≡ kind.StartAssignment → Moves ([], tag.AssignmentStart ∷ []) frames.old frames.new result }
 {
     let Some(assigns) = starts_word(sign.kind) else {
         return Err(frames.opened.stray());
@@ -27,14 +37,16 @@ fn open_word(frames: &mut Frames, sign: Sign, bytes: &[u8]) -> Result<(), Unbuil
 }
 
 /// A word with pieces begins.
-#[tactic(auto, using(crate::proofs::Steps::grows_stays))]
+#[tactic(auto, using(crate::proofs::Steps::grows_stays, crate::proofs::MovingQ::first_fails))]
 pub fn start_word(
     frames: &mut Frames,
     alloc: Global,
     sign: Sign,
     bytes: &[u8],
 ) -> Result<(), Unbuilt>
-    ensures { Grows (Lexed sign bytes.now) frames.old frames.new result }
+    ensures grows { Grows (Lexed sign bytes.now) frames.old frames.new result }
+    ensures moves_plain { sign.kind ≡ kind.Start → Moves ([], tag.Text ∷ tag.WordStart ∷ []) frames.old frames.new result }
+    ensures moves_assignment { sign.kind ≡ kind.StartAssignment → Moves ([], tag.Text ∷ tag.AssignmentStart ∷ []) frames.old frames.new result }
 {
     open_word(frames, sign, bytes)?;
     open_text(frames, alloc)
@@ -43,7 +55,9 @@ pub fn start_word(
 /// The end of a word with pieces.
 #[tactic(auto, using(crate::proofs::Onto::text_loaded, crate::proofs::Onto::word_start_loaded))]
 fn close_plain_word(frames: &mut Frames, sign: Sign, bytes: &[u8]) -> Result<(), Unbuilt>
-    ensures { Grows (Lexed sign bytes.now) frames.old frames.new result }
+    ensures grows { Grows (Lexed sign bytes.now) frames.old frames.new result }
+    ensures moves_plain { sign.kind ≡ kind.WordEnd → Moves (tag.Text ∷ tag.WordStart ∷ [], tag.Whole ∷ []) frames.old frames.new result }
+    ensures moves_assignment { sign.kind ≡ kind.WordEnd → Moves (tag.Text ∷ tag.AssignmentStart ∷ [], tag.WholeAssignment ∷ []) frames.old frames.new result }
 {
     if sign.kind != Kind::WordEnd {
         return Err(frames.opened.stray());
@@ -68,7 +82,8 @@ fn close_element_word(
     sign: Sign,
     bytes: &[u8],
 ) -> Result<(), Unbuilt>
-    ensures { Grows (Lexed sign bytes.now) frames.old frames.new result }
+    ensures grows { Grows (Lexed sign bytes.now) frames.old frames.new result }
+    ensures moves { sign.kind ≡ kind.WordEnd → Moves (tag.Text ∷ tag.Element ∷ [], tag.Whole ∷ []) frames.old frames.new result }
 {
     if sign.kind != Kind::WordEnd {
         return Err(frames.opened.stray());
@@ -101,7 +116,8 @@ fn close_element_word(
 /// The end of the word that is assigned.
 #[tactic(auto, using(crate::proofs::Onto::text_loaded, crate::proofs::Onto::assigning_loaded))]
 fn close_assigned_word(frames: &mut Frames, sign: Sign, bytes: &[u8]) -> Result<(), Unbuilt>
-    ensures { Grows (Lexed sign bytes.now) frames.old frames.new result }
+    ensures grows { Grows (Lexed sign bytes.now) frames.old frames.new result }
+    ensures moves { sign.kind ≡ kind.WordEnd → Moves (tag.Text ∷ tag.Assigning ∷ [], tag.Assigned ∷ []) frames.old frames.new result }
 {
     if sign.kind != Kind::WordEnd {
         return Err(frames.opened.stray());
@@ -129,13 +145,18 @@ fn close_assigned_word(frames: &mut Frames, sign: Sign, bytes: &[u8]) -> Result<
 }
 
 /// The end of a word, or of the word that is assigned.
+#[tactic(auto, using(crate::proofs::MovingQ::never_second))]
 pub fn close_word(
     frames: &mut Frames,
     alloc: Global,
     sign: Sign,
     bytes: &[u8],
 ) -> Result<(), Unbuilt>
-    ensures { Grows (Lexed sign bytes.now) frames.old frames.new result }
+    ensures grows { Grows (Lexed sign bytes.now) frames.old frames.new result }
+    ensures moves_plain { sign.kind ≡ kind.WordEnd → Moves (tag.Text ∷ tag.WordStart ∷ [], tag.Whole ∷ []) frames.old frames.new result }
+    ensures moves_assignment { sign.kind ≡ kind.WordEnd → Moves (tag.Text ∷ tag.AssignmentStart ∷ [], tag.WholeAssignment ∷ []) frames.old frames.new result }
+    ensures moves_element { sign.kind ≡ kind.WordEnd → Moves (tag.Text ∷ tag.Element ∷ [], tag.Whole ∷ []) frames.old frames.new result }
+    ensures moves_assigned { sign.kind ≡ kind.WordEnd → Moves (tag.Text ∷ tag.Assigning ∷ [], tag.Assigned ∷ []) frames.old frames.new result }
 {
     match frames.at(1) {
         Place::Element => close_element_word(frames, alloc, sign, bytes),
@@ -147,7 +168,8 @@ pub fn close_word(
 /// The end of the word of a pair.
 #[tactic(auto, using(crate::proofs::Onto::text_loaded, crate::proofs::Onto::keyed_loaded, crate::proofs::Onto::value_loaded))]
 pub fn close_pair(frames: &mut Frames, sign: Sign, bytes: &[u8]) -> Result<(), Unbuilt>
-    ensures { Grows (Lexed sign bytes.now) frames.old frames.new result }
+    ensures grows { Grows (Lexed sign bytes.now) frames.old frames.new result }
+    ensures moves { sign.kind ≡ kind.WordEnd → Moves (tag.Text ∷ tag.Keyed ∷ tag.Value ∷ [], tag.Value ∷ []) frames.old frames.new result }
 {
     if sign.kind != Kind::WordEnd {
         return Err(frames.opened.stray());
@@ -176,14 +198,20 @@ pub fn close_pair(frames: &mut Frames, sign: Sign, bytes: &[u8]) -> Result<(), U
 }
 
 /// A word of plain bytes, or what compares in a condition.
-#[tactic(auto, using(crate::proofs::Wording::reads_plain_word, crate::proofs::Wording::reads_order_word, crate::proofs::Onto::whole_on))]
+#[tactic(auto, using(crate::proofs::Wording::reads_plain_word, crate::proofs::Wording::reads_order_word, crate::proofs::Onto::whole_on, crate::proofs::MovingQ::pushes_plain, crate::proofs::MovingQ::pushes_assignment, crate::proofs::MovingQ::pushes_name, crate::proofs::MovingQ::pushes_unary, crate::proofs::MovingQ::pushes_binary, crate::proofs::MovingQ::says_nothing))]
 pub fn push_word(
     frames: &mut Frames,
     alloc: Global,
     sign: Sign,
     bytes: &[u8],
 ) -> Result<(), Unbuilt>
-    ensures { Grows (Lexed sign bytes.now) frames.old frames.new result }
+    ensures grows { Grows (Lexed sign bytes.now) frames.old frames.new result }
+    ensures moves_plain { is_word sign.kind ≡ true → is_assignment sign.kind ≡ false → Moves ([], tag.Whole ∷ []) frames.old frames.new result }
+    ensures moves_assignment { sign.kind ≡ kind.Assignment → Moves ([], tag.WholeAssignment ∷ []) frames.old frames.new result }
+    ensures moves_name { is_word sign.kind ≡ true → is_assignment sign.kind ≡ false → all_names (names_of bytes.now) ≡ true → Moves ([], tag.WholeName ∷ []) frames.old frames.new result }
+    ensures moves_unary { is_word sign.kind ≡ true → (test : UnaryTest) → unary_test bytes.now ≡ Some test → Moves ([], tag.WholeUnary ∷ []) frames.old frames.new result }
+    ensures moves_binary { is_word sign.kind ≡ true → (test : BinaryTest) → binary_test bytes.now ≡ Some test → Moves ([], tag.WholeBinary ∷ []) frames.old frames.new result }
+    ensures moves_order { sign.kind ≡ kind.Order → (test : BinaryTest) → binary_test bytes.now ≡ Some test → Moves ([], tag.WholeBinary ∷ []) frames.old frames.new result }
 {
     let word = literal_word(alloc, bytes, false)?;
     if is_word(sign.kind) {
@@ -205,9 +233,11 @@ pub fn push_word(
 }
 
 /// A word of a simple command.
-#[tactic(auto, using(crate::proofs::Wording::reads_simple_word, crate::proofs::Onto::whole_on, crate::proofs::Onto::simple_on, crate::proofs::Onto::whole_loaded, crate::proofs::Onto::simple_loaded))]
+#[tactic(auto, using(crate::proofs::Wording::reads_simple_word, crate::proofs::Onto::whole_on, crate::proofs::Onto::simple_on, crate::proofs::Onto::whole_loaded, crate::proofs::Onto::simple_loaded, crate::proofs::MovingQ::gives_word, crate::proofs::MovingQ::gives_name))]
 fn give_simple_word(frames: &mut Frames) -> Result<(), Unbuilt>
-    ensures { Stays frames.old frames.new result }
+    ensures stays { Stays frames.old frames.new result }
+    ensures moves_simple { Moves (tag.Whole ∷ tag.Simple ∷ [], tag.Simple ∷ []) frames.old frames.new result }
+    ensures moves_first { Moves (tag.WholeName ∷ tag.SimpleEmpty ∷ [], tag.SimpleName ∷ []) frames.old frames.new result }
 {
     let Some(Open::Whole(_, _, false)) = frames.opened.pop() else {
         return Err(frames.opened.stray());
@@ -226,7 +256,8 @@ fn give_simple_word(frames: &mut Frames) -> Result<(), Unbuilt>
 /// A word of `for` or `select`.
 #[tactic(auto, using(crate::proofs::Onto::whole_loaded, crate::proofs::Onto::for_words_loaded))]
 fn give_for_word(frames: &mut Frames) -> Result<(), Unbuilt>
-    ensures { Stays frames.old frames.new result }
+    ensures stays { Stays frames.old frames.new result }
+    ensures moves { Moves (tag.AnyWhole ∷ tag.ForWords ∷ [], tag.ForWords ∷ []) frames.old frames.new result }
 {
     let Some(Open::Whole(_, _, _)) = frames.opened.pop() else {
         return Err(frames.opened.stray());
@@ -247,7 +278,8 @@ fn give_for_word(frames: &mut Frames) -> Result<(), Unbuilt>
 /// The word of `case`.
 #[tactic(auto, using(crate::proofs::Onto::whole_loaded, crate::proofs::Onto::case_loaded))]
 fn give_case_word(frames: &mut Frames) -> Result<(), Unbuilt>
-    ensures { Stays frames.old frames.new result }
+    ensures stays { Stays frames.old frames.new result }
+    ensures moves { Moves (tag.AnyWhole ∷ tag.Case ∷ [], tag.CaseWord ∷ []) frames.old frames.new result }
 {
     let Some(Open::Whole(_, _, _)) = frames.opened.pop() else {
         return Err(frames.opened.stray());
@@ -262,7 +294,8 @@ fn give_case_word(frames: &mut Frames) -> Result<(), Unbuilt>
 /// A pattern.
 #[tactic(auto, using(crate::proofs::Onto::whole_loaded, crate::proofs::Onto::patterns_loaded))]
 fn give_pattern(frames: &mut Frames) -> Result<(), Unbuilt>
-    ensures { Stays frames.old frames.new result }
+    ensures stays { Stays frames.old frames.new result }
+    ensures moves { Moves (tag.AnyWhole ∷ tag.Patterns ∷ [], tag.Patterns ∷ []) frames.old frames.new result }
 {
     let Some(Open::Whole(_, _, _)) = frames.opened.pop() else {
         return Err(frames.opened.stray());
@@ -281,7 +314,13 @@ fn give_pattern(frames: &mut Frames) -> Result<(), Unbuilt>
 /// A word of a term.
 #[tactic(auto, using(crate::proofs::Onto::whole_loaded, crate::proofs::Onto::operands_loaded))]
 fn give_operand(frames: &mut Frames) -> Result<(), Unbuilt>
-    ensures { Stays frames.old frames.new result }
+    ensures stays { Stays frames.old frames.new result }
+    ensures moves_unary { Moves (tag.WholeUnary ∷ tag.OperandsNone ∷ [], tag.OperandsUnary ∷ []) frames.old frames.new result }
+    ensures moves_operand { Moves (tag.AnyWhole ∷ tag.OperandsNone ∷ [], tag.OperandsOne ∷ []) frames.old frames.new result }
+    ensures moves_both { Moves (tag.WholeBinary ∷ tag.OperandsUnary ∷ [], tag.OperandsBoth ∷ []) frames.old frames.new result }
+    ensures moves_binary { Moves (tag.WholeBinary ∷ tag.OperandsOne ∷ [], tag.OperandsBinary ∷ []) frames.old frames.new result }
+    ensures moves_second { Moves (tag.AnyWhole ∷ tag.OperandsUnary ∷ [], tag.Operands ∷ []) frames.old frames.new result }
+    ensures moves_third { Moves (tag.AnyWhole ∷ tag.OperandsBinary ∷ [], tag.Operands ∷ []) frames.old frames.new result }
 {
     let Some(Open::Whole(_, _, _)) = frames.opened.pop() else {
         return Err(frames.opened.stray());
@@ -300,7 +339,10 @@ fn give_operand(frames: &mut Frames) -> Result<(), Unbuilt>
 /// A word of a value.
 #[tactic(auto, using(crate::proofs::Onto::whole_loaded, crate::proofs::Onto::value_loaded))]
 fn give_entry(frames: &mut Frames) -> Result<(), Unbuilt>
-    ensures { Stays frames.old frames.new result }
+    ensures stays { Stays frames.old frames.new result }
+    ensures moves_entry { Moves (tag.Whole ∷ tag.Value ∷ [], tag.Value ∷ []) frames.old frames.new result }
+    ensures moves_name { Moves (tag.WholeName ∷ tag.Value ∷ [], tag.ValueWord ∷ []) frames.old frames.new result }
+    ensures moves_named { Moves (tag.WholeName ∷ tag.ValueWord ∷ [], tag.ValueNamed ∷ []) frames.old frames.new result }
 {
     let Some(Open::Whole(from, _, false)) = frames.opened.pop() else {
         return Err(frames.opened.stray());
@@ -317,8 +359,23 @@ fn give_entry(frames: &mut Frames) -> Result<(), Unbuilt>
 }
 
 /// Gives a word that was read to what it belongs to.
+#[tactic(auto, using(crate::proofs::MovingQ::never_second))]
 fn give_word(frames: &mut Frames) -> Result<(), Unbuilt>
-    ensures { Stays frames.old frames.new result }
+    ensures stays { Stays frames.old frames.new result }
+    ensures moves_simple { Moves (tag.Whole ∷ tag.Simple ∷ [], tag.Simple ∷ []) frames.old frames.new result }
+    ensures moves_first { Moves (tag.WholeName ∷ tag.SimpleEmpty ∷ [], tag.SimpleName ∷ []) frames.old frames.new result }
+    ensures moves_for { Moves (tag.AnyWhole ∷ tag.ForWords ∷ [], tag.ForWords ∷ []) frames.old frames.new result }
+    ensures moves_case { Moves (tag.AnyWhole ∷ tag.Case ∷ [], tag.CaseWord ∷ []) frames.old frames.new result }
+    ensures moves_pattern { Moves (tag.AnyWhole ∷ tag.Patterns ∷ [], tag.Patterns ∷ []) frames.old frames.new result }
+    ensures moves_unary { Moves (tag.WholeUnary ∷ tag.OperandsNone ∷ [], tag.OperandsUnary ∷ []) frames.old frames.new result }
+    ensures moves_operand { Moves (tag.AnyWhole ∷ tag.OperandsNone ∷ [], tag.OperandsOne ∷ []) frames.old frames.new result }
+    ensures moves_both { Moves (tag.WholeBinary ∷ tag.OperandsUnary ∷ [], tag.OperandsBoth ∷ []) frames.old frames.new result }
+    ensures moves_binary { Moves (tag.WholeBinary ∷ tag.OperandsOne ∷ [], tag.OperandsBinary ∷ []) frames.old frames.new result }
+    ensures moves_second { Moves (tag.AnyWhole ∷ tag.OperandsUnary ∷ [], tag.Operands ∷ []) frames.old frames.new result }
+    ensures moves_third { Moves (tag.AnyWhole ∷ tag.OperandsBinary ∷ [], tag.Operands ∷ []) frames.old frames.new result }
+    ensures moves_entry { Moves (tag.Whole ∷ tag.Value ∷ [], tag.Value ∷ []) frames.old frames.new result }
+    ensures moves_name { Moves (tag.WholeName ∷ tag.Value ∷ [], tag.ValueWord ∷ []) frames.old frames.new result }
+    ensures moves_named { Moves (tag.WholeName ∷ tag.ValueWord ∷ [], tag.ValueNamed ∷ []) frames.old frames.new result }
 {
     match frames.at(1) {
         Place::Simple => give_simple_word(frames),
@@ -330,36 +387,42 @@ fn give_word(frames: &mut Frames) -> Result<(), Unbuilt>
     }
 }
 
-/// Reads a word as an assignment.
-#[tactic(auto, using(crate::proofs::Onto::whole_loaded))]
+/// Reads a word as an assignment; as a word where a quote or an expansion stands before its `=`.
+#[tactic(auto, using(crate::proofs::Onto::whole_loaded, crate::proofs::MovingQ::is_an_assignment))]
 fn assign_word(frames: &mut Frames, alloc: Global) -> Result<(), Unbuilt>
-    ensures { Stays frames.old frames.new result }
+    ensures stays { Stays frames.old frames.new result }
+    ensures moves { Moves (tag.WholeAssignment ∷ [], tag.Given ∷ []) frames.old frames.new result }
 {
-    let Some(Open::Whole(_, _, true)) = frames.opened.pop() else {
+    let Some(Open::Whole(from, to, true)) = frames.opened.pop() else {
         return Err(frames.opened.stray());
     };
     let Some(word) = frames.texts.words.pop() else {
         unreachable!();
     };
+    if !is_assigned(word.as_slice()) {
+        let ready = frames.texts.words.push(word);
+        frames
+            .opened
+            .push_after(ready, Open::Whole(from, to, false))?;
+        return Ok(());
+    }
     let Ok(found) = assignment_of(alloc, word) else {
         return Err(frames.opened.lost());
     };
     let Some(assign) = found else {
-        return Err(frames.opened.stray());
+        unreachable!();
     };
     let ready = frames.simples.assigned.push(assign);
     frames.opened.push_after(ready, Open::Assigned)?;
     Ok(())
 }
 
-/// An assignment before a simple command's words.
+/// An assignment of a simple command: before its words, or behind one.
 #[tactic(auto, using(crate::proofs::Onto::assigned_loaded, crate::proofs::Onto::simple_loaded))]
-fn give_first_assignment(frames: &mut Frames) -> Result<(), Unbuilt>
-    ensures { Stays frames.old frames.new result }
+fn give_simple_assignment(frames: &mut Frames) -> Result<(), Unbuilt>
+    ensures stays { Stays frames.old frames.new result }
+    ensures moves { Moves (tag.Assigned ∷ tag.Simple ∷ [], tag.Simple ∷ []) frames.old frames.new result }
 {
-    if !frames.simples.arguments.ends_empty() {
-        return Err(frames.opened.stray());
-    }
     let Some(Open::Assigned) = frames.opened.pop() else {
         return Err(frames.opened.stray());
     };
@@ -369,47 +432,21 @@ fn give_first_assignment(frames: &mut Frames) -> Result<(), Unbuilt>
     let Some(assign) = frames.simples.assigned.pop() else {
         unreachable!();
     };
-    let ready = frames.simples.assigns.add(assign);
-    frames.opened.push_after(ready, Open::Simple(at, line))?;
-    Ok(())
-}
-
-/// An assignment behind a simple command's first word.
-#[tactic(auto, using(crate::proofs::Onto::assigned_loaded, crate::proofs::Onto::simple_loaded))]
-fn give_later_assignment(frames: &mut Frames) -> Result<(), Unbuilt>
-    ensures { Stays frames.old frames.new result }
-{
     if frames.simples.arguments.ends_empty() {
-        return Err(frames.opened.stray());
+        let ready = frames.simples.assigns.add(assign);
+        frames.opened.push_after(ready, Open::Simple(at, line))?;
+        return Ok(());
     }
-    let Some(Open::Assigned) = frames.opened.pop() else {
-        return Err(frames.opened.stray());
-    };
-    let Some(Open::Simple(at, line)) = frames.opened.pop() else {
-        return Err(frames.opened.stray());
-    };
-    let Some(assign) = frames.simples.assigned.pop() else {
-        unreachable!();
-    };
     let ready = frames.simples.arguments.add(Argument::Assign(assign));
     frames.opened.push_after(ready, Open::Simple(at, line))?;
     Ok(())
 }
 
-/// An assignment of a simple command: before its words, or behind one.
-fn give_simple_assignment(frames: &mut Frames) -> Result<(), Unbuilt>
-    ensures { Stays frames.old frames.new result }
-{
-    if frames.simples.arguments.ends_empty() {
-        return give_first_assignment(frames);
-    }
-    give_later_assignment(frames)
-}
-
 /// An assignment in a value.
 #[tactic(auto, using(crate::proofs::Onto::assigned_loaded, crate::proofs::Onto::value_loaded))]
 fn give_value_assignment(frames: &mut Frames) -> Result<(), Unbuilt>
-    ensures { Stays frames.old frames.new result }
+    ensures stays { Stays frames.old frames.new result }
+    ensures moves { Moves (tag.Assigned ∷ tag.Value ∷ [], tag.Value ∷ []) frames.old frames.new result }
 {
     let Some(Open::Assigned) = frames.opened.pop() else {
         return Err(frames.opened.stray());
@@ -426,8 +463,11 @@ fn give_value_assignment(frames: &mut Frames) -> Result<(), Unbuilt>
 }
 
 /// Gives an assignment to its command or value.
+#[tactic(auto, using(crate::proofs::MovingQ::never_second))]
 pub fn give_assignment(frames: &mut Frames) -> Result<(), Unbuilt>
-    ensures { Stays frames.old frames.new result }
+    ensures stays { Stays frames.old frames.new result }
+    ensures moves_simple { Moves (tag.Assigned ∷ tag.Simple ∷ [], tag.Simple ∷ []) frames.old frames.new result }
+    ensures moves_value { Moves (tag.Assigned ∷ tag.Value ∷ [], tag.Value ∷ []) frames.old frames.new result }
 {
     match frames.at(1) {
         Place::Value => give_value_assignment(frames),
@@ -435,10 +475,24 @@ pub fn give_assignment(frames: &mut Frames) -> Result<(), Unbuilt>
     }
 }
 
+/// Gives what a word that begins with `path=` or `path+=` was read as.
+#[tactic(auto, using(crate::proofs::MovingQ::given_word, crate::proofs::MovingQ::given_assignment))]
+fn give_settled(frames: &mut Frames) -> Result<(), Unbuilt>
+    ensures stays { Stays frames.old frames.new result }
+    ensures moves_simple { Moves (tag.Given ∷ tag.Simple ∷ [], tag.Simple ∷ []) frames.old frames.new result }
+    ensures moves_value { Moves (tag.Given ∷ tag.Value ∷ [], tag.Value ∷ []) frames.old frames.new result }
+{
+    match frames.at(0) {
+        Place::Whole => give_word(frames),
+        _ => give_assignment(frames),
+    }
+}
+
 /// Reads a word as that of a redirection.
 #[tactic(auto, using(crate::proofs::Onto::whole_loaded, crate::proofs::Onto::redirection_loaded))]
 fn redirect_word(frames: &mut Frames) -> Result<(), Unbuilt>
-    ensures { Stays frames.old frames.new result }
+    ensures stays { Stays frames.old frames.new result }
+    ensures moves { Moves (tag.AnyWhole ∷ tag.Redirection ∷ [], tag.Redirected ∷ []) frames.old frames.new result }
 {
     let Some(Open::Whole(_, _, _)) = frames.opened.pop() else {
         return Err(frames.opened.stray());
@@ -466,7 +520,8 @@ fn redirect_word(frames: &mut Frames) -> Result<(), Unbuilt>
 /// Reads a word as that which ends a here-document's body.
 #[tactic(auto, using(crate::proofs::Onto::whole_loaded, crate::proofs::Onto::here_operator_loaded))]
 fn here_word(frames: &mut Frames, alloc: Global, script: &[u8]) -> Result<(), Unbuilt>
-    ensures { StaysIn script.now frames.old frames.new result }
+    ensures stays { StaysIn script.now frames.old frames.new result }
+    ensures moves { Moves (tag.AnyWhole ∷ tag.HereOperator ∷ [], tag.HereWord ∷ []) frames.old frames.new result }
 {
     let Some(Open::Whole(from, to, _)) = frames.opened.pop() else {
         return Err(frames.opened.stray());
@@ -488,7 +543,8 @@ fn here_word(frames: &mut Frames, alloc: Global, script: &[u8]) -> Result<(), Un
 /// A redirection of a simple command.
 #[tactic(auto, using(crate::proofs::Onto::redirected_loaded, crate::proofs::Onto::simple_loaded))]
 fn give_simple_redirection(frames: &mut Frames) -> Result<(), Unbuilt>
-    ensures { Stays frames.old frames.new result }
+    ensures stays { Stays frames.old frames.new result }
+    ensures moves { Moves (tag.Redirected ∷ tag.Simple ∷ [], tag.Simple ∷ []) frames.old frames.new result }
 {
     let Some(Open::Redirected) = frames.opened.pop() else {
         return Err(frames.opened.stray());
@@ -507,7 +563,8 @@ fn give_simple_redirection(frames: &mut Frames) -> Result<(), Unbuilt>
 /// A redirection behind a compound command.
 #[tactic(auto, using(crate::proofs::Onto::redirected_loaded, crate::proofs::Onto::compound_loaded))]
 fn give_compound_redirection(frames: &mut Frames) -> Result<(), Unbuilt>
-    ensures { Stays frames.old frames.new result }
+    ensures stays { Stays frames.old frames.new result }
+    ensures moves { Moves (tag.Redirected ∷ tag.Compound ∷ [], tag.Compound ∷ []) frames.old frames.new result }
 {
     let Some(Open::Redirected) = frames.opened.pop() else {
         return Err(frames.opened.stray());
@@ -524,8 +581,11 @@ fn give_compound_redirection(frames: &mut Frames) -> Result<(), Unbuilt>
 }
 
 /// Gives a redirection to its command.
+#[tactic(auto, using(crate::proofs::MovingQ::never_second))]
 pub fn give_redirection(frames: &mut Frames) -> Result<(), Unbuilt>
-    ensures { Stays frames.old frames.new result }
+    ensures stays { Stays frames.old frames.new result }
+    ensures moves_simple { Moves (tag.Redirected ∷ tag.Simple ∷ [], tag.Simple ∷ []) frames.old frames.new result }
+    ensures moves_compound { Moves (tag.Redirected ∷ tag.Compound ∷ [], tag.Compound ∷ []) frames.old frames.new result }
 {
     match frames.at(1) {
         Place::Simple => give_simple_redirection(frames),
@@ -533,22 +593,75 @@ pub fn give_redirection(frames: &mut Frames) -> Result<(), Unbuilt>
     }
 }
 
+/// Reads a word as that of a redirection, and gives that to its command.
+#[tactic(auto, using(crate::proofs::Steps::stays_stays, crate::proofs::MovingQ::two_fail))]
+fn settle_redirection(frames: &mut Frames) -> Result<(), Unbuilt>
+    ensures stays { Stays frames.old frames.new result }
+    ensures moves_simple { Moves (tag.AnyWhole ∷ tag.Redirection ∷ tag.Simple ∷ [], tag.Simple ∷ []) frames.old frames.new result }
+    ensures moves_compound { Moves (tag.AnyWhole ∷ tag.Redirection ∷ tag.Compound ∷ [], tag.Compound ∷ []) frames.old frames.new result }
+{
+    redirect_word(frames)?;
+    give_redirection(frames)
+}
+
+/// Reads a word as an assignment, and gives what it was read as.
+#[tactic(auto, using(crate::proofs::Steps::stays_stays, crate::proofs::MovingQ::one_fails))]
+fn settle_assignment(frames: &mut Frames, alloc: Global) -> Result<(), Unbuilt>
+    ensures stays { Stays frames.old frames.new result }
+    ensures moves_simple { Moves (tag.WholeAssignment ∷ tag.Simple ∷ [], tag.Simple ∷ []) frames.old frames.new result }
+    ensures moves_value { Moves (tag.WholeAssignment ∷ tag.Value ∷ [], tag.Value ∷ []) frames.old frames.new result }
+{
+    assign_word(frames, alloc)?;
+    give_settled(frames)
+}
+
+/// Gives a word, or an assignment, to its command or value.
+#[tactic(auto, using(crate::proofs::MovingQ::never_assignment, crate::proofs::MovingQ::never_whole, crate::proofs::MovingQ::never_name))]
+fn settle_entry(frames: &mut Frames, alloc: Global) -> Result<(), Unbuilt>
+    ensures stays { Stays frames.old frames.new result }
+    ensures moves_simple { Moves (tag.Whole ∷ tag.Simple ∷ [], tag.Simple ∷ []) frames.old frames.new result }
+    ensures moves_first { Moves (tag.WholeName ∷ tag.SimpleEmpty ∷ [], tag.SimpleName ∷ []) frames.old frames.new result }
+    ensures moves_entry { Moves (tag.Whole ∷ tag.Value ∷ [], tag.Value ∷ []) frames.old frames.new result }
+    ensures moves_name { Moves (tag.WholeName ∷ tag.Value ∷ [], tag.ValueWord ∷ []) frames.old frames.new result }
+    ensures moves_named { Moves (tag.WholeName ∷ tag.ValueWord ∷ [], tag.ValueNamed ∷ []) frames.old frames.new result }
+    ensures moves_simple_assignment { Moves (tag.WholeAssignment ∷ tag.Simple ∷ [], tag.Simple ∷ []) frames.old frames.new result }
+    ensures moves_value_assignment { Moves (tag.WholeAssignment ∷ tag.Value ∷ [], tag.Value ∷ []) frames.old frames.new result }
+{
+    if frames.is_assignment_word() {
+        return settle_assignment(frames, alloc);
+    }
+    give_word(frames)
+}
+
 /// Gives what was read to what it belongs to: a word, an assignment or a redirection. Among the entries of a value a name waits
 /// for what comes.
-#[tactic(auto, using(crate::proofs::Steps::stays_stays_in, crate::proofs::Steps::stays_in))]
+#[tactic(auto, using(crate::proofs::Steps::stays_in, crate::proofs::MovingQ::never_second))]
 pub fn settle_word(frames: &mut Frames, alloc: Global, script: &[u8]) -> Result<(), Unbuilt>
-    ensures { StaysIn script.now frames.old frames.new result }
+    ensures stays { StaysIn script.now frames.old frames.new result }
+    ensures moves_simple { Moves (tag.Whole ∷ tag.Simple ∷ [], tag.Simple ∷ []) frames.old frames.new result }
+    ensures moves_first { Moves (tag.WholeName ∷ tag.SimpleEmpty ∷ [], tag.SimpleName ∷ []) frames.old frames.new result }
+    ensures moves_for { Moves (tag.AnyWhole ∷ tag.ForWords ∷ [], tag.ForWords ∷ []) frames.old frames.new result }
+    ensures moves_case { Moves (tag.AnyWhole ∷ tag.Case ∷ [], tag.CaseWord ∷ []) frames.old frames.new result }
+    ensures moves_pattern { Moves (tag.AnyWhole ∷ tag.Patterns ∷ [], tag.Patterns ∷ []) frames.old frames.new result }
+    ensures moves_unary { Moves (tag.WholeUnary ∷ tag.OperandsNone ∷ [], tag.OperandsUnary ∷ []) frames.old frames.new result }
+    ensures moves_operand { Moves (tag.AnyWhole ∷ tag.OperandsNone ∷ [], tag.OperandsOne ∷ []) frames.old frames.new result }
+    ensures moves_both { Moves (tag.WholeBinary ∷ tag.OperandsUnary ∷ [], tag.OperandsBoth ∷ []) frames.old frames.new result }
+    ensures moves_binary { Moves (tag.WholeBinary ∷ tag.OperandsOne ∷ [], tag.OperandsBinary ∷ []) frames.old frames.new result }
+    ensures moves_second { Moves (tag.AnyWhole ∷ tag.OperandsUnary ∷ [], tag.Operands ∷ []) frames.old frames.new result }
+    ensures moves_third { Moves (tag.AnyWhole ∷ tag.OperandsBinary ∷ [], tag.Operands ∷ []) frames.old frames.new result }
+    ensures moves_entry { Moves (tag.Whole ∷ tag.Value ∷ [], tag.Value ∷ []) frames.old frames.new result }
+    ensures moves_name { Moves (tag.WholeName ∷ tag.Value ∷ [], tag.ValueWord ∷ []) frames.old frames.new result }
+    ensures moves_named { Moves (tag.WholeName ∷ tag.ValueWord ∷ [], tag.ValueNamed ∷ []) frames.old frames.new result }
+    ensures moves_simple_assignment { Moves (tag.WholeAssignment ∷ tag.Simple ∷ [], tag.Simple ∷ []) frames.old frames.new result }
+    ensures moves_value_assignment { Moves (tag.WholeAssignment ∷ tag.Value ∷ [], tag.Value ∷ []) frames.old frames.new result }
+    ensures moves_simple_redirection { Moves (tag.AnyWhole ∷ tag.Redirection ∷ tag.Simple ∷ [], tag.Simple ∷ []) frames.old frames.new result }
+    ensures moves_compound_redirection { Moves (tag.AnyWhole ∷ tag.Redirection ∷ tag.Compound ∷ [], tag.Compound ∷ []) frames.old frames.new result }
+    ensures moves_here { Moves (tag.AnyWhole ∷ tag.HereOperator ∷ [], tag.HereWord ∷ []) frames.old frames.new result }
 {
     match frames.at(1) {
-        Place::Redirection => {
-            redirect_word(frames)?;
-            give_redirection(frames)
-        }
+        Place::Redirection => settle_redirection(frames),
         Place::HereOperator => here_word(frames, alloc, script),
-        Place::Simple | Place::Value if frames.is_assignment_word() => {
-            assign_word(frames, alloc)?;
-            give_assignment(frames)
-        }
+        Place::Simple | Place::Value => settle_entry(frames, alloc),
         _ => give_word(frames),
     }
 }

@@ -1,6 +1,6 @@
 -- What a token or a mark does to the frames of a builder of trees, by their tags, the innermost first: a table of the steps that the
 -- builder has. What a word is by its bytes its kind tells; where a token has no row the builder has no step.
-use Rattle.std.specs.Prelude.{List, [], ◌∷◌, ◌++◌, map, Option, Some, None, option_and_then, if◌then◌else◌}
+use Rattle.std.specs.Prelude.{List, [], ◌∷◌, ◌++◌, ◌||◌, map, Option, Some, None, option_and_then, if◌then◌else◌}
 use Rattle.ksh_syntax.specs.declared.kind.Mode.{Mode}
 use Rattle.ksh_syntax.specs.declared.kind.Mode.TheVariants as mode
 use Rattle.ksh_syntax.specs.declared.kind.Kind.{Kind}
@@ -151,6 +151,14 @@ behind_unary k = if same_kind k kind.Binary then tag.OperandsBoth else tag.Opera
 abbrev pub behind_operand : Kind → List Row
 behind_operand k = if same_kind k kind.Binary then row tag.OperandsOne (tag.OperandsBinary ∷ []) ∷ [] else []
 
+-- the first pattern of an item, where no `esac` ends the items
+abbrev pub begin_patterns : Kind → List Row
+begin_patterns k = if same_kind k kind.Esac then [] else row tag.Cases (tag.Patterns ∷ tag.Cases ∷ []) ∷ []
+
+-- the first word of a term, which is no `!` and no `]]`
+abbrev pub begin_term : Kind → List Row
+begin_term k = if same_kind k kind.Bang || same_kind k kind.RightBrackets then [] else row tag.Terms (first_operand k ∷ tag.Terms ∷ []) ∷ []
+
 -- a word of plain bytes where it belongs to what stands there
 abbrev pub plain_word : Kind → List Row
 plain_word k =
@@ -160,15 +168,13 @@ plain_word k =
     ∷ row tag.ForWords (tag.ForWords ∷ [])
     ∷ row tag.Case (tag.CaseWord ∷ [])
     ∷ row tag.Patterns (tag.Patterns ∷ [])
-    ∷ row tag.Cases (tag.Patterns ∷ tag.Cases ∷ [])
-    ∷ row tag.Terms (first_operand k ∷ tag.Terms ∷ [])
     ∷ row tag.OperandsUnary (behind_unary k ∷ [])
     ∷ row tag.OperandsBinary (tag.Operands ∷ [])
     ∷ row tag.OperandsBoth (tag.Operands ∷ [])
     ∷ (tag.Redirection ∷ tag.Simple ∷ [], tag.Simple ∷ [])
     ∷ (tag.Redirection ∷ tag.Compound ∷ [], tag.Compound ∷ [])
     ∷ row tag.HereOperator (tag.HereWord ∷ [])
-    ∷ behind_operand k
+    ∷ behind_operand k ++ (begin_patterns k ++ begin_term k)
 
 -- what a word of plain bytes is among the entries of a value
 abbrev pub whole_of : Kind → Tag

@@ -139,6 +139,20 @@ abbrev pub assignment_of : List Piece → Option Assign
 assignment_of (piece.Literal bytes false ∷ ps) = assigned (path_front bytes) (drop (length (path_front bytes)) bytes) ps
 assignment_of _ = None
 
+-- `=` or `+=` stands in front
+abbrev pub assigns : List ℕ → Bool
+assigns [] = false
+assigns (b ∷ bs) = b == 61 || (b == 43 && begins_equal bs)
+  where
+    begins_equal : List ℕ → Bool
+    begins_equal [] = false
+    begins_equal (c ∷ cs) = c == 61
+
+-- whether a word is an assignment
+abbrev pub is_assigned : List Piece → Bool
+is_assigned (piece.Literal bytes false ∷ ps) = assigns (drop (length (path_front bytes)) bytes) && all_names (names_of (path_front bytes))
+is_assigned _ = false
+
 -- whether bytes end with `+=`
 abbrev pub adds : List ℕ → Bool
 adds bytes = bytes_eq (drop (length (path_front bytes)) bytes) (codes "+=")
@@ -211,9 +225,9 @@ abbrev pub subst_kind : SubstKind → List Item → SubstKind
 subst_kind subst.Fork is = if is_file is then subst.File else subst.Fork
 subst_kind k is = k
 
-abbrev pub parsed_by : Result ArithExpr ArithRefused → Option Arith
-parsed_by (Ok e) = Some (arith.Parsed e)
-parsed_by (Err e) = None
+abbrev pub expression : Result ArithExpr ArithRefused → Option ArithExpr
+expression (Ok e) = Some e
+expression (Err e) = None
 
 -- the bytes of a word without quotes and expansions
 abbrev pub plain_text : List Piece → Option (List ℕ)
@@ -221,13 +235,21 @@ plain_text [] = Some []
 plain_text (piece.Literal text false ∷ []) = Some text
 plain_text _ = None
 
-abbrev pub arith_by : Option (List ℕ) → List Piece → Option Arith
-arith_by (Some text) ps = parsed_by (parsed text)
-arith_by None ps = Some (arith.Text ps)
+-- the expression that a word without quotes and expansions is
+abbrev pub expression_if : Option (List ℕ) → Option ArithExpr
+expression_if (Some text) = expression (parsed text)
+expression_if None = None
 
--- arithmetic without quotes and expansions is an expression, and other is read when it runs
-abbrev pub arith_of : List Piece → Option Arith
-arith_of ps = arith_by (plain_text ps) ps
+abbrev pub plain_expression : List Piece → Option ArithExpr
+plain_expression ps = expression_if (plain_text ps)
+
+abbrev pub arith_by : Option ArithExpr → List Piece → Arith
+arith_by (Some e) ps = arith.Parsed e
+arith_by None ps = arith.Text ps
+
+-- arithmetic that is an expression without quotes and expansions; other is read when it runs
+abbrev pub arith_of : List Piece → Arith
+arith_of ps = arith_by (plain_expression ps) ps
 
 abbrev pub all_blank : List ℕ → Bool
 all_blank [] = true
@@ -240,13 +262,18 @@ is_blank_text None = false
 abbrev pub left_out : List Piece → Bool
 left_out ps = is_blank_text (plain_text ps)
 
-abbrev pub some_arith : Option Arith → Option (Option Arith)
-some_arith None = None
-some_arith (Some a) = Some (Some a)
-
 -- an expression of `for ((`, which may be left out
-abbrev pub part_of_for : List Piece → Option (Option Arith)
-part_of_for ps = if left_out ps then Some None else some_arith (arith_of ps)
+abbrev pub part_of_for : List Piece → Option Arith
+part_of_for ps = if left_out ps then None else Some (arith_of ps)
+
+-- what stands in front of names where a path does: no name has a bracket
+abbrev pub prefix_by : Option (List ℕ) → List ℕ → List ℕ
+prefix_by (Some text) name = text
+prefix_by None name = name ++ 91 ∷ []
+
+-- the bytes with which names begin that `${!path@}` gives: the path as it is written
+abbrev pub prefix_of : TreePath → List ℕ
+prefix_of path = prefix_by (plain_text (path_word path)) path.name
 
 -- ---- redirections
 

@@ -2,8 +2,9 @@
 ghost use Rattle.std.specs.Prelude.{◌≡◌, IfOk};
 ghost use Rattle.std.specs.Option.{option_copied};
 ghost use Rattle.ksh_arith.specs.Grammar.{is_blank, parsed};
-ghost use Rattle.tree_parts.specs.Parts.{all_blank, arith_of, left_out, parsed_by, part_of_for, plain_bytes, plain_text};
+ghost use Rattle.tree_parts.specs.Parts.{all_blank, arith_of, expression, left_out, part_of_for, plain_bytes, plain_expression, plain_text};
 
+use arith_tree::ArithExpr;
 use ksh_arith::{ArithRefused, parse_arith};
 use ksh_ast::{Arith, Piece, Word};
 use ksh_base::Memory;
@@ -36,24 +37,34 @@ pub(crate) fn plain_bytes(pieces: &[Piece]) -> &[u8]
 }
 
 /// The expression that a text is; nothing where it is none.
-fn parsed(alloc: Global, text: &[u8]) -> Result<Option<Arith>, Memory>
-    ensures { IfOk result (λ o. o ≡ parsed_by (parsed text.now)) }
+fn parsed(alloc: Global, text: &[u8]) -> Result<Option<ArithExpr>, Memory>
+    ensures { IfOk result (λ o. o ≡ expression (parsed text.now)) }
 {
     match parse_arith(alloc, text) {
-        Ok(expr) => Ok(Some(Arith::Parsed(expr))),
+        Ok(expr) => Ok(Some(expr)),
         Err(ArithRefused::Memory) => Err(Memory),
         Err(ArithRefused::Bad(_)) => Ok(None),
         Err(ArithRefused::TooDeep(_)) => Ok(None),
     }
 }
 
-/// Arithmetic: an expression, or a word with quotes or expansions; nothing where it is no expression.
-pub fn arith_of(alloc: Global, word: Word) -> Result<Option<Arith>, Memory>
-    ensures { IfOk result (λ o. o ≡ arith_of word) }
+/// The expression that a word without quotes and expansions is; nothing where it is none.
+fn plain_expression(alloc: Global, pieces: &[Piece]) -> Result<Option<ArithExpr>, Memory>
+    ensures { IfOk result (λ o. o ≡ plain_expression pieces.now) }
 {
-    match plain_text(word.as_slice()) {
+    match plain_text(pieces) {
         Some(text) => parsed(alloc, text),
-        None => Ok(Some(Arith::Text(word))),
+        None => Ok(None),
+    }
+}
+
+/// Arithmetic: an expression, or a word that is read when it runs.
+pub fn arith_of(alloc: Global, word: Word) -> Result<Arith, Memory>
+    ensures { IfOk result (λ a. a ≡ arith_of word) }
+{
+    match plain_expression(alloc, word.as_slice())? {
+        Some(expr) => Ok(Arith::Parsed(expr)),
+        None => Ok(Arith::Text(word)),
     }
 }
 
@@ -85,14 +96,11 @@ fn left_out(pieces: &[Piece]) -> bool
 }
 
 /// An expression of `for ((`, which may be left out.
-pub fn part_of_for(alloc: Global, word: Word) -> Result<Option<Option<Arith>>, Memory>
+pub fn part_of_for(alloc: Global, word: Word) -> Result<Option<Arith>, Memory>
     ensures { IfOk result (λ o. o ≡ part_of_for word) }
 {
     if left_out(word.as_slice()) {
-        return Ok(Some(None));
+        return Ok(None);
     }
-    match arith_of(alloc, word)? {
-        Some(arith) => Ok(Some(Some(arith))),
-        None => Ok(None),
-    }
+    Ok(Some(arith_of(alloc, word)?))
 }

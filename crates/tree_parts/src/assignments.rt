@@ -1,10 +1,10 @@
 //! Assignments.
 ghost use Rattle.std.specs.Prelude.{◌≡◌, ◌++◌, ◌∷◌, [], IfOk, MatchOption, false};
 ghost use Rattle.tree_parts.specs.Literals.{literal};
-ghost use Rattle.tree_parts.specs.Parts.{adds, appended, assign_to, assigned, assignment_of};
+ghost use Rattle.tree_parts.specs.Parts.{adds, appended, assign_to, assigned, assignment_of, assigns, is_assigned};
 
 use crate::literals::literal_word;
-use crate::names::{behind_path, path_front, path_of};
+use crate::names::{are_names, behind_path, path_front, path_of};
 use ksh_ast::{Assign, AssignValue, Piece, Word};
 use ksh_base::Memory;
 use std::alloc::Global;
@@ -98,6 +98,35 @@ pub fn assignment_of(alloc: Global, word: Word) -> Result<Option<Assign>, Memory
             None => Ok(None),
         },
         None => Ok(None),
+    }
+}
+
+/// Whether `=` or `+=` stands behind a path.
+fn assigns(behind: &[u8]) -> bool
+    ensures { result ≡ assigns behind.now }
+{
+    match behind.split_first() {
+        Some((b'=', _)) => true,
+        Some((b'+', more)) => matches!(more.first(), Some(b'=')),
+        _ => false,
+    }
+}
+
+/// Whether a word is an assignment.
+pub fn is_assigned(word: &[Piece]) -> bool
+    ensures { result ≡ is_assigned word.now }
+{
+    match word.first() {
+        Some(
+            Piece::Literal {
+                text,
+                quoted: false,
+            },
+        ) => {
+            let bytes = text.bytes();
+            assigns(behind_path(bytes)) && are_names(path_front(bytes))
+        }
+        _ => false,
     }
 }
 

@@ -4,8 +4,9 @@ ghost use Rattle.ksh_ast.specs.declared.tree.TreePart.TheVariants as part;
 ghost use Rattle.ksh_kinds.specs.Words.{path_front};
 ghost use Rattle.ksh_lexer.specs.Bytes.{in_name, starts_name};
 ghost use Rattle.tree_parts.specs.Literals.{from_place};
-ghost use Rattle.tree_parts.specs.Parts.{all_names, between_dots, is_name, names_of, path_of, path_word, with_part_text, with_parts_text};
+ghost use Rattle.tree_parts.specs.Parts.{all_names, are_in_name, between_dots, is_name, names_of, path_of, path_word, prefix_of, with_part_text, with_parts_text};
 
+use crate::arithmetic::plain_text;
 use crate::literals::{add_literal, add_pieces, literal_word};
 use crate::queue::Queue;
 use crate::sign::Sign;
@@ -75,6 +76,54 @@ fn names_behind(
             Ok(Some(found))
         }
         None => Ok(None),
+    }
+}
+
+fn are_in_name(bytes: &[u8]) -> bool
+    ensures { result ≡ are_in_name bytes.now }
+{
+    for byte in bytes {
+        if !in_name(*byte) {
+            return false;
+        }
+    }
+    true
+}
+
+fn is_name(bytes: &[u8]) -> bool
+    ensures { result ≡ is_name bytes.now }
+{
+    if bytes == b".sh".as_slice() {
+        return true;
+    }
+    match bytes.split_first() {
+        Some((first, rest)) => starts_name(*first) && are_in_name(rest),
+        None => false,
+    }
+}
+
+/// Whether bytes are names with dots between them.
+#[tactic(auto, using(crate::proofs::Naming::bad_first, crate::proofs::Naming::one_more_name, crate::proofs::Naming::last_name))]
+fn are_between_dots(bytes: &[u8]) -> bool
+    ensures { result ≡ all_names (between_dots bytes.now) }
+{
+    let mut rest = bytes;
+    while let Some(at) = dot_place(rest) {
+        if !is_name(&rest[..at]) {
+            return false;
+        }
+        rest = &rest[at + 1..];
+    }
+    is_name(rest)
+}
+
+/// Whether bytes are a path.
+pub(crate) fn are_names(bytes: &[u8]) -> bool
+    ensures { result ≡ all_names (names_of bytes.now) }
+{
+    match bytes {
+        [b'.', b's', b'h', b'.', rest @ ..] => are_between_dots(rest),
+        _ => are_between_dots(bytes),
     }
 }
 
@@ -198,6 +247,20 @@ pub fn path_word(alloc: Global, path: TreePath) -> Result<Word, Memory>
     let TreePath { name, parts } = path;
     let front = literal_word(alloc, name.text().bytes(), false)?;
     with_parts(alloc, front, parts)
+}
+
+/// The bytes with which the names begin that `${!path@}` gives: the path as it is written. Where an expansion stands in it, no name
+/// begins so.
+pub fn prefix_of(alloc: Global, path: TreePath) -> Result<Text, Memory>
+    ensures { IfOk result (λ text. text ≡ prefix_of path) }
+{
+    let mut name = path.name.text().copy(alloc)?;
+    let word = path_word(alloc, path)?;
+    if let Some(bytes) = plain_text(word.as_slice()) {
+        return Text::of(alloc, bytes);
+    }
+    name.append(b"[")?;
+    Ok(name)
 }
 
 /// The pieces with parts of a path behind them.

@@ -3,10 +3,14 @@ use Rattle.ksh_ast.specs.declared.tree.Command.TheVariants as commands
 use Rattle.tree_build.specs.Reads.{arm}
 use Rattle.tree_build.proofs.Onto.{listed_on, then_on, compound_on}
 use Rattle.tree_build.proofs.Compounding.{reads_if_ends}
+use Rattle.tree_build.specs.Frame.{Compound}
+use Rattle.tree_build.proofs.Moving.{two_for_one}
+use Rattle.tree_moves.specs.Tags as tag
+use Rattle.tree_build.proofs.Redirecting.{if_redirects}
 use Rattle.tree_build.proofs.compounds.end_arms.Goals as goal
 
-pub returns : goal.returns
-returns c =
+pub returns-clause-grows : goal.returns-clause-grows
+returns-clause-grows c =
     let line = c.in-Some-Then.line in
     let body = c.in-Some.body in
     let test = c.in-Some-pop.test in
@@ -16,6 +20,21 @@ returns c =
     let pushed : c.push_compound-ready.new.commands ≡ commands.If (arms ++ arm test body ∷ []) None [] ∷ c.frames.inside.lists.commands = search rules in
     let bare : c.push_compound-ready.new.redirects ≡ [] ∷ c.frames.inside.redirections.redirects = search rules in
     reads_if_ends c.args.sign c.args.bytes.now line _ _ _ _ _ _ _ (search rules)
+    (sym c.frames.view_is ∙ listed_on c.frames.inside.opened c.pop.new.self _ (search rules))
+    (then_on c.pop.new.self c.pop-2.new.self _ line (search rules))
+    (rw (pushed, bare, taken, armed) (compound_on c.push_after.new.self c.pop-2.new.self _ line (search rules)))
+
+pub returns-clause-moves : goal.returns-clause-moves
+returns-clause-moves c =
+    let line = c.in-Some-Then.line in
+    let body = c.in-Some.body in
+    let test = c.in-Some-pop.test in
+    let arms = c.in-Some-pop-2.arms in
+    let taken : c.frames.inside.lists.lists ≡ body ∷ test ∷ c.pop-4.new.self = search rules in
+    let armed : c.frames.inside.compounds.arms ≡ arms ∷ c.pop-5.new.self = search rules in
+    let pushed : c.push_compound-ready.new.commands ≡ commands.If (arms ++ arm test body ∷ []) None [] ∷ c.frames.inside.lists.commands = search rules in
+    let bare : c.push_compound-ready.new.redirects ≡ [] ∷ c.frames.inside.redirections.redirects = search rules in
+    λ k. two_for_one tag.Listed tag.Then tag.Compound _ _ (Compound line (commands.If (arms ++ arm test body ∷ []) None []) []) _ _ _ _ (λ p q more e. if_redirects (arms ++ arm test body ∷ []) None more e)
     (sym c.frames.view_is ∙ listed_on c.frames.inside.opened c.pop.new.self _ (search rules))
     (then_on c.pop.new.self c.pop-2.new.self _ line (search rules))
     (rw (pushed, bare, taken, armed) (compound_on c.push_after.new.self c.pop-2.new.self _ line (search rules)))

@@ -20,8 +20,8 @@ subscript_with os os1 b ps rest o e = subscript_on os os1 b o ∙ ap (λ (ws : L
 target_with : (os os1 : List Open) (b : Loads) (from : ℕ) (path : TreePath) (rest : List TreePath) → os ≡ opens.Target from ∷ os1 → b.texts.paths ≡ path ∷ rest → frames_of os b ≡ Target from path ∷ frames_of os1 (record b { texts = record b.texts { paths = rest } })
 target_with os os1 b from path rest o e = target_on os os1 b from o ∙ ap (λ (ps : List TreePath). Target from (top (path_of []) ps) ∷ frames_of os1 (record b { texts = record b.texts { paths = below ps } })) e
 
-pub returns : goal.returns
-returns c =
+pub returns-clause-grows : goal.returns-clause-grows
+returns-clause-grows c =
     let from = c.in-Some-Target.from in
     let word = c.in-Some.word in
     let path = c.in-Some-pop.path in

@@ -25,8 +25,8 @@ formed_first os os1 b quoted form first rest o e = formed_on os os1 b quoted for
 formed_with : (os os1 : List Open) (b : Loads) (quoted : Bool) (form : Form) (p : ParamOf) (rest : List ParamOf) (first : Option (List Piece)) (firsts : List (Option (List Piece))) → os ≡ opens.Formed quoted form ∷ os1 → b.texts.params ≡ p ∷ rest → b.texts.firsts ≡ first ∷ firsts → frames_of os b ≡ Formed quoted p form first ∷ frames_of os1 (record b { texts = record b.texts { params = rest; firsts = firsts } })
 formed_with os os1 b quoted form p rest first firsts o e f = formed_first os os1 b quoted form first firsts o f ∙ ap (λ (ps : List ParamOf). Formed quoted (top (of.Special []) ps) form first ∷ frames_of os1 (record b { texts = record b.texts { params = below ps; firsts = firsts } })) e
 
-pub returns : goal.returns
-returns c =
+pub returns-clause-grows : goal.returns-clause-grows
+returns-clause-grows c =
     let form = c.in-Some-Formed in
     let last = c.in-Some.last in
     let param = c.in-Some-pop.of in

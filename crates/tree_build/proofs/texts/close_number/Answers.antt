@@ -14,11 +14,11 @@ use Rattle.tree_build.proofs.texts.close_number.Goals as goal
 text_with : (os os1 : List Open) (b : Loads) (ps : List Piece) (rest : List (List Piece)) → os ≡ opens.Text ∷ os1 → b.texts.words ≡ ps ∷ rest → frames_of os b ≡ Text ps ∷ frames_of os1 (record b { texts = record b.texts { words = rest } })
 text_with os os1 b ps rest o e = text_on os os1 b o ∙ ap (λ (ws : List (List Piece)). Text (top [] ws) ∷ frames_of os1 (record b { texts = record b.texts { words = below ws } })) e
 
-pub returns : goal.returns
-returns c =
+pub returns-clause-grows : goal.returns-clause-grows
+returns-clause-grows c =
     let start = c.in-Some-Opened-Arithmetic in
     let inside = c.in-Some.inside in
-    let text = c.in-Some-found.text in
+    let text = c.in-Ok.text in
     let words = c.pop-4.new.self in
     let taken : c.frames.inside.texts.words ≡ inside ∷ words = search rules in
     let added : c.add-ready.new.self ≡ (top [] words ++ piece.Number text start.quoted ∷ []) ∷ below words = search rules in

@@ -22,8 +22,8 @@ parameter_with os os1 b quoted asked p rest o e = parameter_on os os1 b quoted a
 text_with : (os os1 : List Open) (b : Loads) (ps : List Piece) (rest : List (List Piece)) → os ≡ opens.Text ∷ os1 → b.texts.words ≡ ps ∷ rest → frames_of os b ≡ Text ps ∷ frames_of os1 (record b { texts = record b.texts { words = rest } })
 text_with os os1 b ps rest o e = text_on os os1 b o ∙ ap (λ (ws : List (List Piece)). Text (top [] ws) ∷ frames_of os1 (record b { texts = record b.texts { words = below ws } })) e
 
-pub returns : goal.returns
-returns c =
+pub returns-clause-grows : goal.returns-clause-grows
+returns-clause-grows c =
     let parameter = c.in-Some-Parameter in
     let words = c.frames.inside.texts.words in
     let taken : c.frames.inside.texts.params ≡ c.in-Some.of ∷ c.pop-3.new.self = search rules in

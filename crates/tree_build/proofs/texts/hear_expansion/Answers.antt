@@ -8,8 +8,8 @@ use Rattle.tree_build.proofs.Texting.{reads_simple_expansion}
 use Rattle.tree_build.proofs.Onto.{text_on}
 use Rattle.tree_build.proofs.texts.hear_expansion.Goals as goal
 
-pub returns : goal.returns
-returns c =
+pub returns-clause-grows : goal.returns-clause-grows
+returns-clause-grows c =
     let at = c.in-Expand.at in
     let s = c.args.sign in
     let added : c.add-ready.new.self ≡ (top [] c.frames.inside.texts.words ++ expansion (simple_param (from_place s at c.args.bytes.now)) made.Plain (quotes s.mode) ∷ []) ∷ below c.frames.inside.texts.words = search rules in

@@ -4,8 +4,8 @@ use Rattle.tree_build.proofs.Giving.{adds_literal}
 use Rattle.tree_build.proofs.Onto.{text_on}
 use Rattle.tree_build.proofs.texts.hear_literal.Goals as goal
 
-pub returns : goal.returns
-returns c =
+pub returns-clause-grows : goal.returns-clause-grows
+returns-clause-grows c =
     let pieces = c.in-Some.pieces in
     let taken : c.frames.inside.texts.words ≡ pieces ∷ c.pop-2.new.self = search rules in
     let pushed : c.push-ready.new.self ≡ c.add_token.new.pieces ∷ c.pop-2.new.self = search rules in

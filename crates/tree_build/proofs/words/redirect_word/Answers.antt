@@ -1,12 +1,21 @@
 use Rattle.std.proofs.Common.{rules, sym, ◌∙◌}
 use Rattle.tree_build.proofs.Onto.{whole_on, redirection_on, redirected_on}
 use Rattle.tree_build.proofs.Wording.{reads_redirected}
+use Rattle.tree_build.proofs.MovingQ.{moves_redirected}
 use Rattle.tree_build.proofs.words.redirect_word.Goals as goal
 
-pub returns : goal.returns
-returns c =
+pub returns-clause-stays : goal.returns-clause-stays
+returns-clause-stays c =
     let whole = c.in-Some-Whole in
     reads_redirected whole.field-0-0 whole.field-0-1 whole.field-0-2 _ _ _ _ _ _ _
+    (sym c.frames.view_is ∙ whole_on c.frames.inside.opened c.pop.new.self _ whole.field-0-0 whole.field-0-1 whole.field-0-2 (search rules))
+    (redirection_on c.pop.new.self c.pop-2.new.self _ (search rules))
+    (redirected_on c.push_after.new.self c.pop-2.new.self _ (search rules) ∙ (search rules))
+
+pub returns-clause-moves : goal.returns-clause-moves
+returns-clause-moves c =
+    let whole = c.in-Some-Whole in
+    moves_redirected whole.field-0-0 whole.field-0-1 whole.field-0-2 _ _ _ _ _ _ _
     (sym c.frames.view_is ∙ whole_on c.frames.inside.opened c.pop.new.self _ whole.field-0-0 whole.field-0-1 whole.field-0-2 (search rules))
     (redirection_on c.pop.new.self c.pop-2.new.self _ (search rules))
     (redirected_on c.push_after.new.self c.pop-2.new.self _ (search rules) ∙ (search rules))

@@ -1,0 +1,7 @@
+use Rattle.std.proofs.Common.{[], ◌∷◌}
+use Rattle.tree_moves.specs.Tags as tag
+use Rattle.tree_build.proofs.MovingS.{then_on_top}
+use Rattle.tree_build.proofs.assignments.end_as_word.Goals as goal
+
+pub returns-clause-moves : goal.returns-clause-moves
+returns-clause-moves c = λ k. then_on_top (tag.Target ∷ []) tag.Element tag.Text _ _ _ _ (c.in_ok-turn_to_word.ensures.moves k) c.open_text.ensures.moves
